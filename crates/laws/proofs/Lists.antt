@@ -1,0 +1,199 @@
+-- Laws of lists.
+--     in-left, in-right, in-append     what stands in two lists joined
+--     in-map, map-in                   what stands in a list's image
+--     in-filter, filter-in             what stands among those that pass
+--     in-below, below-in               what stands below a number
+--     tells-any, tells-in, tells-same-list     what the tests of lists tell
+--     pairwise-..                      pairs of a joined list, of those that pass
+--     rising-same                      two lists that rise in one order and have the same in them are one list
+--     begins-..                        beginnings
+--     map-append, flat-append, length-flat
+use Prim.Native.Nat.{ℕ, zero, suc, _+_, _*_, _≤_, _<_}
+use native.Mathlib.Omega.{arith}
+use native.Mathlib.Decide.{ℕ-discrete}
+use mathlib.Core.Path.{_≡_, refl, sym, ap, subst, _∙_}
+use mathlib.Core.Bool.{Bool, true, false, false≢true}
+use mathlib.Core.Logic.{_⊎_, inl, inr, ⊎-elim}
+use mathlib.Core.List.{List, [], _∷_, _++_, append-assoc, append-nil, map}
+use lib.ListN.{length, length-append}
+use lib.Dec.{eqb}
+use Rattle.laws.specs.Tests.{Tells}
+use Rattle.laws.specs.Lists.{In, Pairwise, Begins, any, same, consIf, filter, flat, upFrom, below}
+use Rattle.laws.proofs.Tests.{tells-same, tells-or, tells-and, tells-as}
+
+module _ {A : Type 0} where
+  pub in-left : (q : A) (xs ys : List A) → In q xs → In q (xs ++ ys)
+  in-left q [] ys h = absurd h
+  in-left q (x ∷ xs) ys (inl e) = inl e
+  in-left q (x ∷ xs) ys (inr h) = inr (in-left q xs ys h)
+
+  pub in-right : (q : A) (xs ys : List A) → In q ys → In q (xs ++ ys)
+  in-right q [] ys h = h
+  in-right q (x ∷ xs) ys h = inr (in-right q xs ys h)
+
+  pub in-append : (q : A) (xs ys : List A) → In q (xs ++ ys) → In q xs ⊎ In q ys
+  in-append q [] ys h = inr h
+  in-append q (x ∷ xs) ys (inl e) = inl (inl e)
+  in-append q (x ∷ xs) ys (inr h) = ⊎-elim (λ a. inl (inr a)) inr (in-append q xs ys h)
+
+  pub tells-any : {P : A → Type 0} (f : A → Bool) → ((x : A) → Tells (f x) (P x)) → (xs : List A) → Tells (any f xs) ((x : A) × In x xs × P x)
+  tells-any f d [] = (λ h. absurd (false≢true h), λ h. absurd (h .1))
+  tells-any {P} f d (x ∷ xs) = tells-as (tells-or (d x) (tells-any f d xs)) there back
+    where
+      there : P x ⊎ ((y : A) × In y xs × P y) → (y : A) × In y (x ∷ xs) × P y
+      there (inl p) = (x, inl refl, p)
+      there (inr w) = (w .0, inr (w .1), w .2)
+
+      at : (y : A) → In y (x ∷ xs) → P y → P x ⊎ ((y : A) × In y xs × P y)
+      at y (inl e) p = inl (subst P e p)
+      at y (inr i) p = inr (y, i, p)
+
+      back : (y : A) × In y (x ∷ xs) × P y → P x ⊎ ((y : A) × In y xs × P y)
+      back w = at (w .0) (w .1) (w .2)
+
+  -- ---- those that pass a test
+
+  first-consIf : (b : Bool) (x : A) (xs : List A) → b ≡ true → In x (consIf b x xs)
+  first-consIf b x xs e = rw e (inl refl)
+
+  rest-consIf : (b : Bool) (q x : A) (xs : List A) → In q xs → In q (consIf b x xs)
+  rest-consIf true q x xs h = inr h
+  rest-consIf false q x xs h = h
+
+  in-consIf : (b : Bool) (q x : A) (xs : List A) → In q (consIf b x xs) → ((q ≡ x) × (b ≡ true)) ⊎ In q xs
+  in-consIf true q x xs (inl e) = inl (e, refl)
+  in-consIf true q x xs (inr h) = inr h
+  in-consIf false q x xs h = inr h
+
+  pub in-filter : (f : A → Bool) (q : A) (xs : List A) → In q xs → f q ≡ true → In q (filter f xs)
+  in-filter f q [] h e = h
+  in-filter f q (x ∷ xs) (inl i) e = subst (λ (z : A). In q (consIf (f z) z (filter f xs))) i (first-consIf (f q) q (filter f xs) e)
+  in-filter f q (x ∷ xs) (inr h) e = rest-consIf (f x) q x (filter f xs) (in-filter f q xs h e)
+
+  pub filter-in : (f : A → Bool) (q : A) (xs : List A) → In q (filter f xs) → (In q xs) × (f q ≡ true)
+  filter-in f q [] h = absurd h
+  filter-in f q (x ∷ xs) h = go (in-consIf (f x) q x (filter f xs) h) (filter-in f q xs)
+    where
+      go : ((q ≡ x) × (f x ≡ true)) ⊎ In q (filter f xs) → (In q (filter f xs) → (In q xs) × (f q ≡ true)) → (In q (x ∷ xs)) × (f q ≡ true)
+      go (inl w) ih = (inl (w .0), ap f (w .0) ∙ w .1)
+      go (inr i) ih = (inr (ih i .0), ih i .1)
+
+  length-consIf : (b : Bool) (x : A) (xs : List A) → length (consIf b x xs) ≤ suc (length xs)
+  length-consIf true x xs = omega arith
+  length-consIf false x xs = omega arith
+
+  pub length-filter : (f : A → Bool) (xs : List A) → length (filter f xs) ≤ length xs
+  length-filter f [] = omega arith
+  length-filter f (x ∷ xs) = omega (arith, length-consIf (f x) x (filter f xs), length-filter f xs)
+
+  -- ---- pairs
+
+  pub pairwise-append : (R : A → A → Type 0) (xs ys : List A) → Pairwise R xs → Pairwise R ys → ((a b : A) → In a xs → In b ys → R a b) → Pairwise R (xs ++ ys)
+  pairwise-append R [] ys g h c = h
+  pairwise-append R (x ∷ xs) ys g h c =
+      (λ q m. ⊎-elim (g .0 q) (c x q (inl refl)) (in-append q xs ys m), pairwise-append R xs ys (g .1) h (λ a b s t. c a b (inr s) t))
+
+  pub pairwise-filter : (R : A → A → Type 0) (f : A → Bool) (xs : List A) → Pairwise R xs → Pairwise R (filter f xs)
+  pairwise-filter R f [] h = tt
+  pairwise-filter R f (x ∷ xs) h = go (f x) (pairwise-filter R f xs (h .1))
+    where
+      go : (b : Bool) → Pairwise R (filter f xs) → Pairwise R (consIf b x (filter f xs))
+      go true p = (λ y i. h .0 y (filter-in f y xs i .0), p)
+      go false p = p
+
+  -- two lists that rise in one order and have the same in them are one list
+  pub rising-same : (R : A → A → Type 0) → ((a : A) → R a a → ⊥) → ((a b : A) → R a b → R b a → ⊥)
+      → (xs ys : List A) → Pairwise R xs → Pairwise R ys → ((x : A) → In x xs → In x ys) → ((x : A) → In x ys → In x xs) → xs ≡ ys
+  rising-same R irr asym [] [] g h s r = refl
+  rising-same R irr asym [] (y ∷ ys) g h s r = absurd (r y (inl refl))
+  rising-same R irr asym (x ∷ xs) [] g h s r = absurd (s x (inl refl))
+  rising-same R irr asym (x ∷ xs) (y ∷ ys) g h s r =
+      let e : x ≡ y = heads (s x (inl refl)) (r y (inl refl)) in
+      both e (rising-same R irr asym xs ys (g .1) (h .1) (λ z i. right e z i (s z (inr i))) (λ z i. left e z i (r z (inr i))))
+    where
+      heads : In x (y ∷ ys) → In y (x ∷ xs) → x ≡ y
+      heads (inl e) j = e
+      heads (inr i) (inl e) = sym e
+      heads (inr i) (inr j) = absurd (asym x y (g .0 y j) (h .0 x i))
+
+      both : x ≡ y → xs ≡ ys → (x ∷ xs) ≡ (y ∷ ys)
+      both e f = cc
+
+      right : x ≡ y → (z : A) → In z xs → In z (y ∷ ys) → In z ys
+      right e z i (inl f) = absurd (irr x (subst (R x) (f ∙ sym e) (g .0 z i)))
+      right e z i (inr j) = j
+
+      left : x ≡ y → (z : A) → In z ys → In z (x ∷ xs) → In z xs
+      left e z i (inl f) = absurd (irr y (subst (R y) (f ∙ e) (h .0 z i)))
+      left e z i (inr j) = j
+
+  -- ---- beginnings
+
+  pub begins-itself : (xs : List A) → Begins xs xs
+  begins-itself xs = ([], sym (append-nil xs))
+
+  pub begins-longer : (xs ys : List A) → Begins xs (xs ++ ys)
+  begins-longer xs ys = (ys, refl)
+
+  pub begins-through : (xs ys zs : List A) → Begins xs ys → Begins ys zs → Begins xs zs
+  begins-through xs ys zs v w = (v .0 ++ w .0, w .1 ∙ rw (v .1) (append-assoc xs (v .0) (w .0)))
+
+-- ---- images and joined images
+
+module _ {A B : Type 0} where
+  pub in-map : (h : A → B) (x : A) (xs : List A) → In x xs → In (h x) (map h xs)
+  in-map h x [] i = absurd i
+  in-map h x (y ∷ ys) (inl e) = inl (ap h e)
+  in-map h x (y ∷ ys) (inr i) = inr (in-map h x ys i)
+
+  pub map-in : (h : A → B) (z : B) (xs : List A) → In z (map h xs) → (x : A) × In x xs × (z ≡ h x)
+  map-in h z [] i = absurd i
+  map-in h z (y ∷ ys) (inl e) = (y, inl refl, e)
+  map-in h z (y ∷ ys) (inr i) = let w = map-in h z ys i in (w .0, inr (w .1), w .2)
+
+  pub map-append : (h : A → B) (xs ys : List A) → map h (xs ++ ys) ≡ map h xs ++ map h ys
+  map-append h [] ys = refl
+  map-append h (x ∷ xs) ys = ap (λ (l : List B). h x ∷ l) (map-append h xs ys)
+
+  pub flat-append : (f : A → List B) (xs ys : List A) → flat f (xs ++ ys) ≡ flat f xs ++ flat f ys
+  flat-append f [] ys = refl
+  flat-append f (x ∷ xs) ys = ap (λ (l : List B). f x ++ l) (flat-append f xs ys) ∙ sym (append-assoc (f x) (flat f xs) (flat f ys))
+
+pub tells-in : (m : ℕ) (xs : List ℕ) → Tells (any (eqb m) xs) (In m xs)
+tells-in m xs = tells-as (tells-any (eqb m) (tells-same m) xs) (λ w. subst (λ (z : ℕ). In z xs) (sym (w .2)) (w .1)) (λ i. (m, i, refl))
+
+pub tells-same-list : (xs ys : List ℕ) → Tells (same xs ys) (xs ≡ ys)
+tells-same-list [] [] = (λ e. refl, λ e. refl)
+tells-same-list [] (y ∷ ys) = (λ e. absurd (false≢true e), λ e. absurd (let z : _≡_ {A = ℕ} 0 1 = cc in omega arith))
+tells-same-list (x ∷ xs) [] = (λ e. absurd (false≢true e), λ e. absurd (let z : _≡_ {A = ℕ} 0 1 = cc in omega arith))
+tells-same-list (x ∷ xs) (y ∷ ys) = tells-as (tells-and (tells-same x y) (tells-same-list xs ys)) (λ w. join (w .0) (w .1)) (λ e. (heads e, tails e))
+  where
+    join : x ≡ y → xs ≡ ys → (x ∷ xs) ≡ (y ∷ ys)
+    join p q = cc
+
+    heads : (x ∷ xs) ≡ (y ∷ ys) → x ≡ y
+    heads e = cc
+
+    tails : (x ∷ xs) ≡ (y ∷ ys) → xs ≡ ys
+    tails e = cc
+
+-- ---- the numbers below n
+
+in-upFrom : (k n i : ℕ) → i ≤ k → k < i + n → In k (upFrom n i)
+in-upFrom k zero i a b = absurd (omega arith)
+in-upFrom k (suc n) i a b = go (ℕ-discrete k i) (in-upFrom k n (suc i))
+  where
+    go : Dec (k ≡ i) → (suc i ≤ k → k < suc i + n → In k (upFrom n (suc i))) → In k (upFrom (suc n) i)
+    go (yes e) ih = inl e
+    go (no e) ih = inr (ih (omega arith) (omega arith))
+
+upFrom-in : (k n i : ℕ) → In k (upFrom n i) → k < i + n
+upFrom-in k zero i h = absurd h
+upFrom-in k (suc n) i (inl e) = omega arith
+upFrom-in k (suc n) i (inr h) = omega (arith, upFrom-in k n (suc i) h)
+
+pub in-below : (k n : ℕ) → k < n → In k (below n)
+in-below k n h = in-upFrom k n 0 (omega arith) (omega arith)
+
+pub below-in : (k n : ℕ) → In k (below n) → k < n
+below-in k n h = omega (arith, upFrom-in k n 0 h)

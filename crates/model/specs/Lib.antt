@@ -1,0 +1,7 @@
+pub mod Refusals
+pub mod Holds
+pub mod Rows
+pub mod Trace
+pub mod Image
+pub mod Table
+pub mod Reads
