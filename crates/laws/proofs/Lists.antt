@@ -1,10 +1,10 @@
 -- Laws of lists.
 --     in-left, in-right, in-append     what stands in two lists joined
 --     in-map, map-in                   what stands in a list's image
---     in-filter, filter-in             what stands among those that pass
+--     in-filter, filter-in, filter-append      those that pass
 --     in-below, below-in               what stands below a number
 --     tells-any, tells-in, tells-same-list     what the tests of lists tell
---     pairwise-..                      pairs of a joined list, of those that pass
+--     pairwise-.., append-pairwise     pairs of a joined list, of those that pass
 --     rising-same                      two lists that rise in one order and have the same in them are one list
 --     begins-..                        beginnings
 --     map-append, flat-append, length-flat
@@ -78,6 +78,14 @@ module _ {A : Type 0} where
       go (inl w) ih = (inl (w .0), ap f (w .0) ∙ w .1)
       go (inr i) ih = (inr (ih i .0), ih i .1)
 
+  pub filter-append : (f : A → Bool) (xs ys : List A) → filter f (xs ++ ys) ≡ filter f xs ++ filter f ys
+  filter-append f [] ys = refl
+  filter-append f (x ∷ xs) ys = go (f x) (filter-append f xs ys)
+    where
+      go : (b : Bool) → filter f (xs ++ ys) ≡ filter f xs ++ filter f ys → consIf b x (filter f (xs ++ ys)) ≡ consIf b x (filter f xs) ++ filter f ys
+      go true e = ap (λ (l : List A). x ∷ l) e
+      go false e = e
+
   length-consIf : (b : Bool) (x : A) (xs : List A) → length (consIf b x xs) ≤ suc (length xs)
   length-consIf true x xs = omega arith
   length-consIf false x xs = omega arith
@@ -92,6 +100,16 @@ module _ {A : Type 0} where
   pairwise-append R [] ys g h c = h
   pairwise-append R (x ∷ xs) ys g h c =
       (λ q m. ⊎-elim (g .0 q) (c x q (inl refl)) (in-append q xs ys m), pairwise-append R xs ys (g .1) h (λ a b s t. c a b (inr s) t))
+
+  pub append-pairwise : (R : A → A → Type 0) (xs ys : List A) → Pairwise R (xs ++ ys) → (Pairwise R xs) × (Pairwise R ys) × ((a b : A) → In a xs → In b ys → R a b)
+  append-pairwise R [] ys h = (tt, h, λ a b i j. absurd i)
+  append-pairwise R (x ∷ xs) ys h =
+      let w = append-pairwise R xs ys (h .1) in
+      ((λ y i. h .0 y (in-left y xs ys i), w .0), w .1, cross (w .2))
+    where
+      cross : ((a b : A) → In a xs → In b ys → R a b) → (a b : A) → In a (x ∷ xs) → In b ys → R a b
+      cross ih a b (inl e) j = subst (λ (z : A). R z b) (sym e) (h .0 b (in-right b xs ys j))
+      cross ih a b (inr i) j = ih a b i j
 
   pub pairwise-filter : (R : A → A → Type 0) (f : A → Bool) (xs : List A) → Pairwise R xs → Pairwise R (filter f xs)
   pairwise-filter R f [] h = tt

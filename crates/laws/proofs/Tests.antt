@@ -3,6 +3,7 @@
 --     never                and not both
 --     tells-same, -less, -most     the tests of numbers
 --     tells-not, -and, -or         a test made of tests tells what is made of their propositions
+--     tells-itself         a test tells that it passes
 --     tells-as             a test tells whatever is equivalent to what it tells
 --     fails                a test of what is not so fails
 --     tells-equal          two tests of equivalent propositions are one
@@ -30,6 +31,9 @@ tells-less a b = (ltb-true a b, lt-ltb a b)
 
 pub tells-most : (a b : ℕ) → Tells (leb a b) (a ≤ b)
 tells-most a b = (leb-true a b, le-leb a b)
+
+pub tells-itself : (b : Bool) → Tells b (b ≡ true)
+tells-itself b = (λ e. e, λ e. e)
 
 failed : (b : Bool) → not b ≡ true → b ≡ false
 failed true e = sym e

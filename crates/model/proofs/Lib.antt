@@ -5,3 +5,4 @@ pub mod Passing
 pub mod Sound
 pub mod Traces
 pub mod Tally
+pub mod Image

@@ -13,10 +13,12 @@ use lib.ListN.{length}
 use lib.Dec.{eqb, leb, ltb}
 use borrow.Author.Tests.{eq-eqb, ne-eqb, le-leb, lt-leb, lt-ltb, le-ltb, leb-false, not-false}
 use Rattle.laws.proofs.Tests.{tells-same, tells-or}
+use Rattle.model.specs.declared.Event.{Event}
+use Rattle.model.specs.declared.Limits.{Limits}
 use Rattle.model.specs.Refusals.{Verdict, passes, refuses, Refusal, Kind, Thread, Lock, Taken, Deep, NotHeld, Full, _if_else_}
 use Rattle.model.specs.Holds.{mostHeld, locks}
-use Rattle.model.specs.Rows.{mostRows, Limits, known}
-use Rattle.model.specs.Trace.{Event, acquires, releases, State, holdsIt, elsewhere, dependency, arises, refusal, acquired, gaveUp, after}
+use Rattle.model.specs.Rows.{mostRows, known}
+use Rattle.model.specs.Trace.{acquires, releases, State, holdsIt, elsewhere, dependency, arises, refusal, acquired, gaveUp, after}
 use Rattle.model.proofs.Refusals.{if-passes}
 
 -- how many locks the event's thread holds
@@ -53,10 +55,10 @@ module _ (n : Limits) (s : State) (e : Event) where
     module _ (t : e .thread < n .threads) (l : e .lock < n .locks) where
       -- the tests that are left
       acquire-tests : refusal n s e ≡
-          ( Taken if elsewhere n s e else
-            Deep if not (holdsIt s e) && leb mostHeld (depth s e) else
-            Full if arises s e && (not (known (dependency s e) (s .rows)) && leb mostRows (length (s .rows))) else
-            passes)
+          (Taken if elsewhere n s e else
+          Deep if not (holdsIt s e) && leb mostHeld (depth s e) else
+          Full if arises s e && (not (known (dependency s e) (s .rows)) && leb mostRows (length (s .rows))) else
+          passes)
       unfolding refusal
       acquire-tests = rw (eq-eqb (e .kind) 1 k, not-two (e .kind) k, lt-leb (n .threads) (e .thread) t, lt-leb (n .locks) (e .lock) l)
 

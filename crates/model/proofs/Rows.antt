@@ -1,7 +1,8 @@
 -- How rows change when a dependency arises.
 --     tells-same-dep, tells-known     what the tests tell
---     arose-either                    the two cases
+--     arose-known, arose-new, arose-either     the two cases
 --     deps-counted, firsts-counted, placed-counted      a repeat changes no dependency and no position
+--     counted-none                    and no row of another dependency
 use Prim.Native.Nat.{ℕ, _+_, _≤_}
 use native.Mathlib.Omega.{arith}
 use mathlib.Core.Path.{_≡_, refl, sym, ap, ap₂, subst, _∙_}
@@ -11,7 +12,7 @@ use mathlib.Core.List.{List, [], _∷_, _++_, map}
 use lib.ListN.{length, length-map, length-append}
 use Rattle.laws.specs.Tests.{Tells, if_then_else_}
 use Rattle.laws.specs.Lists.{In, same}
-use Rattle.laws.proofs.Tests.{either, tells-same, tells-and, tells-as}
+use Rattle.laws.proofs.Tests.{either, fails, tells-same, tells-and, tells-as}
 use Rattle.laws.proofs.Lists.{in-map, map-in, in-append, tells-any, tells-same-list}
 use Rattle.model.specs.Rows.{Dependency, Row, sameDep, isOf, known, newRow, again, counted, arose, deps, placed}
 
@@ -36,9 +37,16 @@ pub data Arose (d : Dependency) (p : ℕ) (rs : List Row) : Type 0 where
   repeats : known d rs ≡ true → arose d p rs ≡ map (counted d) rs → Arose d p rs
   begins : known d rs ≡ false → arose d p rs ≡ rs ++ (newRow d p ∷ []) → Arose d p rs
 
-pub arose-either : (d : Dependency) (p : ℕ) (rs : List Row) → Arose d p rs
+pub arose-known : (d : Dependency) (p : ℕ) (rs : List Row) → known d rs ≡ true → arose d p rs ≡ map (counted d) rs
 unfolding arose
-arose-either d p rs = ⊎-elim (λ e. repeats e (rw e)) (λ e. begins e (rw e)) (either (known d rs))
+arose-known d p rs e = rw e
+
+pub arose-new : (d : Dependency) (p : ℕ) (rs : List Row) → known d rs ≡ false → arose d p rs ≡ rs ++ (newRow d p ∷ [])
+unfolding arose
+arose-new d p rs e = rw e
+
+pub arose-either : (d : Dependency) (p : ℕ) (rs : List Row) → Arose d p rs
+arose-either d p rs = ⊎-elim (λ e. repeats e (arose-known d p rs e)) (λ e. begins e (arose-new d p rs e)) (either (known d rs))
 
 -- ---- a repeat
 
@@ -76,3 +84,8 @@ firsts-counted d = kept-counted (λ r. r .first) d (first-counted d)
 
 pub placed-counted : (d : Dependency) (rs : List Row) → map placed (map (counted d) rs) ≡ map placed rs
 placed-counted d = kept-counted placed d (λ r. ap₂ (λ x y. (x, y)) (what-counted d r) (first-counted d r))
+
+-- no row of x is there to be counted
+pub counted-none : (x : Dependency) (rs : List Row) → (In x (deps rs) → ⊥) → map (counted x) rs ≡ rs
+counted-none x [] h = refl
+counted-none x (r ∷ rs) h = rw (fails (tells-same-dep x (r .what)) (λ e. h (inl e))) (ap (λ (l : List Row). r ∷ l) (counted-none x rs (λ i. h (inr i))))

@@ -20,10 +20,12 @@ use Rattle.laws.specs.Sets.{Rising, insert}
 use Rattle.laws.proofs.Tests.{either, never, fails, tells-not, tells-same, tells-less, tells-and, update-here, update-there}
 use Rattle.laws.proofs.Lists.{in-map, map-in, in-append, in-below, map-append, tells-any, pairwise-append}
 use Rattle.laws.proofs.Sets.{insert-in, insert-rising, length-insert, remove-in, remove-rising, length-remove}
+use Rattle.model.specs.declared.Event.{Event}
+use Rattle.model.specs.declared.Limits.{Limits}
 use Rattle.model.specs.Refusals.{passes}
 use Rattle.model.specs.Holds.{mostHeld, Holding, nothing, locks, holds, taken, released}
-use Rattle.model.specs.Rows.{mostRows, Limits, Dependency, Row, known, newRow, counted, arose, deps, Fair}
-use Rattle.model.specs.Trace.{Event, State, start, holdsIt, elsewhere, dependency, arises, refusal, after}
+use Rattle.model.specs.Rows.{mostRows, Dependency, Row, known, newRow, counted, arose, deps, Fair}
+use Rattle.model.specs.Trace.{State, start, holdsIt, elsewhere, dependency, arises, refusal, after}
 use Rattle.model.proofs.Holds.{tells-holds, locks-taken-new, locks-taken-again, locks-released}
 use Rattle.model.proofs.Rows.{tells-known, Arose, repeats, begins, arose-either, what-counted, first-counted, times-counted, deps-counted, firsts-counted}
 use Rattle.model.proofs.Passing.{depth, Passed, passed, after-acquire, after-release}

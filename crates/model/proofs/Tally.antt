@@ -17,10 +17,12 @@ use Rattle.laws.specs.Tests.{if_then_else_}
 use Rattle.laws.specs.Lists.{In, Pairwise, consIf}
 use Rattle.laws.proofs.Tests.{either, never, fails}
 use Rattle.laws.proofs.Lists.{in-map, in-append, in-left, in-right, map-append, pairwise-append}
+use Rattle.model.specs.declared.Event.{Event}
+use Rattle.model.specs.declared.Limits.{Limits}
 use Rattle.model.specs.Refusals.{Refusal, Verdict, passes, refuses}
-use Rattle.model.specs.Rows.{Limits, Dependency, Row, sameDep, isOf, known, newRow, again, counted, arose, deps, placed}
-use Rattle.model.specs.Trace.{Event, acquires, releases, State, start, dependency, arises, refusal, acquired, gaveUp, after, Read, reads, trace}
-use Rattle.model.proofs.Rows.{tells-same-dep, tells-known, Arose, repeats, begins, arose-either, deps-counted, placed-counted}
+use Rattle.model.specs.Rows.{Dependency, Row, sameDep, isOf, known, newRow, again, counted, arose, deps, placed}
+use Rattle.model.specs.Trace.{acquires, releases, State, start, dependency, arises, refusal, acquired, gaveUp, after, Read, reads, trace}
+use Rattle.model.proofs.Rows.{tells-same-dep, tells-known, Arose, repeats, begins, arose-either, deps-counted, placed-counted, counted-none}
 use Rattle.model.proofs.Traces.{Way, on, stop, way, reads-end, reads-on, reads-stop}
 
 abbrev pub Arising : Type 0
@@ -30,8 +32,8 @@ unfoldable pub arisings : Limits → State → ℕ → List Event → List Arisi
 arisings n s p [] = []
 arisings n s p (e ∷ es) =
     elim (refusal n s e) [
-      passes ↦ consIf (acquires e && arises s e) (dependency s e, p) (arisings n (after s p e) (suc p) es)
-    | refuses r ↦ []
+      | passes ↦ consIf (acquires e && arises s e) (dependency s e, p) (arisings n (after s p e) (suc p) es)
+      | refuses r ↦ []
     ]
 
 abbrev pub tally : List Row → List Arising → List Row
@@ -101,10 +103,6 @@ times-append d (r ∷ rs) qs = omega (arith, times-append d rs qs)
 times-none : (d : Dependency) (rs : List Row) → (In d (deps rs) → ⊥) → timesOf d rs ≡ 0
 times-none d [] h = refl
 times-none d (r ∷ rs) h = rw (fails (tells-same-dep d (r .what)) (λ e. h (inl e))) (omega (arith, times-none d rs (λ i. h (inr i))))
-
-counted-none : (x : Dependency) (rs : List Row) → (In x (deps rs) → ⊥) → map (counted x) rs ≡ rs
-counted-none x [] h = refl
-counted-none x (r ∷ rs) h = rw (fails (tells-same-dep x (r .what)) (λ e. h (inl e))) (ap (λ (l : List Row). r ∷ l) (counted-none x rs (λ i. h (inr i))))
 
 -- of another dependency
 times-other : (d x : Dependency) → (d ≡ x → ⊥) → (rs : List Row) → timesOf d (map (counted x) rs) ≡ timesOf d rs
@@ -224,9 +222,10 @@ tally-first r rs (x ∷ xs) i = go (arose-either (x .0) (x .1) rs) (tally-first 
   where
     last : known (x .0) rs ≡ false → In (placed r) (x ∷ []) → Came r rs (x ∷ xs)
     last k (inl e) =
-        inr
-        (λ j. never (tells-known (x .0) rs .1 (subst (λ (z : Dependency). In z (deps rs)) (ap (λ (y : Arising). y .0) e) j)) k,
-        record { earlier = []; later = xs; split = ap (λ (y : Arising). y ∷ xs) (sym e); new = λ j. j })
+        inr (
+          λ j. never (tells-known (x .0) rs .1 (subst (λ (z : Dependency). In z (deps rs)) (ap (λ (y : Arising). y .0) e) j)) k,
+          record { earlier = []; later = xs; split = ap (λ (y : Arising). y ∷ xs) (sym e); new = λ j. j },
+        )
     last k (inr j) = absurd j
 
     next : (In (r .what) (deps (arose (x .0) (x .1) rs)) → ⊥) → (f : First r xs) → In (r .what) (x .0 ∷ whats (f .earlier)) → ⊥
@@ -235,9 +234,10 @@ tally-first r rs (x ∷ xs) i = go (arose-either (x .0) (x .1) rs) (tally-first 
 
     go : Arose (x .0) (x .1) rs → Came r (arose (x .0) (x .1) rs) xs → Came r rs (x ∷ xs)
     go k (inr w) =
-        inr
-        (λ j. w .0 (arose-in (x .0) (x .1) rs (r .what) (inl j)),
-        record { earlier = x ∷ w .1 .earlier; later = w .1 .later; split = ap (λ (l : List Arising). x ∷ l) (w .1 .split); new = next (w .0) (w .1) })
+        inr (
+          λ j. w .0 (arose-in (x .0) (x .1) rs (r .what) (inl j)),
+          record { earlier = x ∷ w .1 .earlier; later = w .1 .later; split = ap (λ (l : List Arising). x ∷ l) (w .1 .split); new = next (w .0) (w .1) },
+        )
     go (repeats k e) (inl j) = inl (rw (e, placed-counted (x .0) rs) at j)
     go (begins k e) (inl j) = ⊎-elim inl (last k) (in-append (placed r) (map placed rs) (x ∷ []) (rw (e, map-append placed rs (newRow (x .0) (x .1) ∷ [])) at j))
 

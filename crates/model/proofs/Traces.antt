@@ -15,9 +15,11 @@ use lib.ListN.{length, take, length-map}
 use Rattle.laws.specs.Tests.{if_then_else_}
 use Rattle.laws.specs.Lists.{In, Begins}
 use Rattle.laws.proofs.Lists.{map-in, map-append, begins-itself, begins-longer, begins-through}
+use Rattle.model.specs.declared.Event.{Event}
+use Rattle.model.specs.declared.Limits.{Limits}
 use Rattle.model.specs.Refusals.{Refusal, Verdict, passes, refuses}
-use Rattle.model.specs.Rows.{mostRows, Limits, widest, Dependency, Row, known, newRow, counted, arose, deps, placed, Fair, WellFormed}
-use Rattle.model.specs.Trace.{Event, acquires, releases, State, start, dependency, arises, refusal, acquired, gaveUp, after, Read, reads, trace}
+use Rattle.model.specs.Rows.{mostRows, widest, Dependency, Row, known, newRow, counted, arose, deps, placed, Fair, WellFormed}
+use Rattle.model.specs.Trace.{acquires, releases, State, start, dependency, arises, refusal, acquired, gaveUp, after, Read, reads, trace}
 use Rattle.model.proofs.Refusals.{refuses-passes}
 use Rattle.model.proofs.Rows.{Arose, repeats, begins, arose-either, placed-counted}
 use Rattle.model.proofs.Sound.{Sound, SoundRows, sound-start, sound-after}

@@ -13,9 +13,9 @@ use lib.ListN.{length, drop}
 use lib.Dec.{eqb, leb, ltb}
 use Rattle.laws.specs.Lists.{same}
 use Rattle.laws.specs.Memory.{part, field}
+use Rattle.model.specs.declared.Event.{Event}
+use Rattle.model.specs.declared.Limits.{Limits}
 use Rattle.model.specs.Refusals.{Verdict, passes, _if_else_, Refusal, Short, Long, Mark, Counts, Places}
-use Rattle.model.specs.Rows.{Limits}
-use Rattle.model.specs.Trace.{Event}
 
 abbrev pub mark : List ℕ
 mark = 0x4C ∷ 0x4B ∷ 0x54 ∷ 0x31 ∷ []
@@ -46,7 +46,7 @@ abbrev pub within : ℕ → ℕ → ℕ → Bool
 within lo hi n = leb lo n && leb n hi
 
 unfoldable pub countsFit : List ℕ → Bool
-countsFit b = within 1 32 (threads b) && (within 1 256 (locks b) && within 0 4096 (events b))
+countsFit b = within 1 32 (threads b) && (within 1 256 (locks b) && leb (events b) 4096)
 
 unfoldable pub placesFit : List ℕ → Bool
 placesFit b = leb headerSize (offset b) && (eqb (whole b) (length b) && eqb (offset b + eventSize * events b) (whole b))

@@ -8,7 +8,6 @@ use Prim.Native.Nat.{ℕ}
 use mathlib.Core.Bool.{Bool, true, false}
 
 infixr 1 _if_else_
-
 pub data Refusal : Type 0 where
   Short : Refusal
   Long : Refusal

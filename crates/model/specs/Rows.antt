@@ -6,18 +6,20 @@
 --     arose d p rs     the rows after d arises at position p: a known one has one occurrence more, a new one comes last
 --     placed r         a row in all but its occurrences
 --     mostRows         a table has at most so many rows
---     Limits           threads are below `threads`, locks below `locks`; `widest`: in any table
+--     fullFor d rs     the test: d would be one row too many
+--     widest           the limits of any table (`Limits` of src/lib.rt: threads are below `threads`, locks below `locks`)
 --     Fair n d         a dependency within the limits n: H has 1 to 7 locks, rises, and has not the wanted lock in it
 --     WellFormed ds    the dependencies of a well-formed table. Position and occurrences are not looked at
 use Prim.Native.Nat.{ℕ, _+_, _≤_, _<_}
 use mathlib.Core.Path.{_≡_}
-use mathlib.Core.Bool.{Bool, _&&_}
+use mathlib.Core.Bool.{Bool, not, _&&_}
 use mathlib.Core.List.{List, [], _∷_, _++_, map}
 use lib.ListN.{length}
-use lib.Dec.{eqb}
+use lib.Dec.{eqb, leb}
 use Rattle.laws.specs.Tests.{if_then_else_}
 use Rattle.laws.specs.Lists.{In, Pairwise, any, same}
 use Rattle.laws.specs.Sets.{Rising}
+use Rattle.model.specs.declared.Limits.{Limits}
 
 abbrev pub mostRows : ℕ
 mostRows = 1024
@@ -55,15 +57,14 @@ counted d r = if isOf d r then again r else r
 unfoldable pub arose : Dependency → ℕ → List Row → List Row
 arose d p rs = if known d rs then map (counted d) rs else rs ++ (newRow d p ∷ [])
 
+abbrev pub fullFor : Dependency → List Row → Bool
+fullFor d rs = not (known d rs) && leb mostRows (length rs)
+
 abbrev pub deps : List Row → List Dependency
 deps rs = map (λ r. r .what) rs
 
 abbrev pub placed : Row → Dependency × ℕ
 placed r = (r .what, r .first)
-
-pub record Limits : Type 0 where
-  pub threads : ℕ
-  pub locks : ℕ
 
 abbrev pub widest : Limits
 widest = record { threads = 32; locks = 256 }

@@ -1,6 +1,5 @@
 -- What a recorded trace means: a fold of its events over what the threads hold and the rows so far (document 01, "From events to rows").
---     Event            its kind, its thread, its lock and its site, which no rule reads
---     acquires, releases     the tests of its kind
+--     acquires, releases     the tests of an event's kind (`Event` of src/lib.rt: kind, thread, lock, and a site that no rule reads)
 --     State            what each thread holds, and the rows so far; `start`: before event 0
 --     dependency s e   (t, m, H) for an acquire of m by t, with H what t holds
 --     arises s e       the test: it arises, since m is not held already and H is not empty
@@ -16,15 +15,11 @@ use lib.ListN.{length}
 use lib.Dec.{eqb, leb, ltb}
 use Rattle.laws.specs.Tests.{if_then_else_, update}
 use Rattle.laws.specs.Lists.{any, below}
+use Rattle.model.specs.declared.Event.{Event}
+use Rattle.model.specs.declared.Limits.{Limits}
 use Rattle.model.specs.Refusals.{Verdict, passes, refuses, _if_else_, Refusal, Kind, Thread, Lock, Taken, Deep, NotHeld, Full}
 use Rattle.model.specs.Holds.{mostHeld, Holding, nothing, locks, holds, taken, released}
-use Rattle.model.specs.Rows.{mostRows, Limits, Dependency, Row, known, arose}
-
-pub record Event : Type 0 where
-  pub kind : ℕ
-  pub thread : ℕ
-  pub lock : ℕ
-  pub site : ℕ
+use Rattle.model.specs.Rows.{Dependency, Row, fullFor, arose}
 
 abbrev pub acquires : Event → Bool
 acquires e = eqb (e .kind) 1
@@ -61,7 +56,7 @@ refusal n s e =
     Taken if acquires e && elsewhere n s e else
     Deep if acquires e && (not (holdsIt s e) && leb mostHeld (length (locks (s .held (e .thread))))) else
     NotHeld if releases e && not (holdsIt s e) else
-    Full if acquires e && (arises s e && (not (known (dependency s e) (s .rows)) && leb mostRows (length (s .rows)))) else
+    Full if acquires e && (arises s e && fullFor (dependency s e) (s .rows)) else
     passes
 
 -- the state after an acquire, and after a release
@@ -87,8 +82,8 @@ unfoldable pub reads : Limits → State → ℕ → List Event → Read
 reads n s p [] = record { verdict = passes; place = 0; state = s }
 reads n s p (e ∷ es) =
     elim (refusal n s e) [
-      passes ↦ reads n (after s p e) (suc p) es
-    | refuses r ↦ record { verdict = refuses r; place = p; state = s }
+      | passes ↦ reads n (after s p e) (suc p) es
+      | refuses r ↦ record { verdict = refuses r; place = p; state = s }
     ]
 
 abbrev pub trace : Limits → List Event → Read

@@ -1,0 +1,7 @@
+pub mod Keys
+pub mod Events
+pub mod Index
+pub mod Tables
+pub mod Noting
+pub mod Owners
+pub mod Steps

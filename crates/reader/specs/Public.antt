@@ -1,0 +1,9 @@
+-- What `read` leaves, as the one thing that its contract speaks of.
+--     outcome r t      the answer r, and the lent table, which then holds t
+use Prim.Native.Nat.{ℕ}
+use mathlib.Core.List.{List}
+use Rattle.model.specs.declared.Reading.{Reading}
+use Rattle.model.specs.Reads.{Outcome}
+
+abbrev pub outcome : Reading → List ℕ → Outcome
+outcome r t = record { answer = r; table = t }

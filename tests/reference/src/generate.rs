@@ -1,0 +1,114 @@
+//! Generated cases: lawful traces, traces that go wrong at an event, damaged images, and bytes of no meaning.
+
+use crate::cases::Case;
+use crate::image::{acquire, build, release, Event};
+
+/// xorshift64*: the same seed gives the same cases everywhere.
+struct Dice(u64);
+
+impl Dice {
+    fn roll(&mut self) -> u64 {
+        self.0 ^= self.0 >> 12;
+        self.0 ^= self.0 << 25;
+        self.0 ^= self.0 >> 27;
+        self.0.wrapping_mul(0x2545_F491_4F6C_DD1D)
+    }
+
+    fn below(&mut self, n: usize) -> usize {
+        ((self.roll() >> 33) as usize) % n
+    }
+
+    fn one_in(&mut self, n: usize) -> bool {
+        self.below(n) == 0
+    }
+
+    fn pick<T: Copy>(&mut self, all: &[T]) -> T {
+        all[self.below(all.len())]
+    }
+}
+
+/// Events of threads that take free locks and give theirs back, now and then a wrong one.
+fn events(dice: &mut Dice, threads: usize, locks: usize, count: usize, wrong: usize) -> Vec<Event> {
+    let mut held: Vec<Vec<u16>> = vec![vec![]; threads];
+    let mut events = vec![];
+    for _ in 0..count {
+        let t = dice.below(threads);
+        let m = dice.below(locks) as u16;
+        let mut event = if held[t].is_empty() || dice.below(10) < 6 { acquire(t as u8, m) } else { release(t as u8, dice.pick(&held[t])) };
+        if wrong > 0 && dice.one_in(wrong) {
+            event = Event { kind: dice.pick(&[0, 1, 1, 1, 2, 2, 3, 255]), thread: dice.below(threads + 2) as u8, lock: dice.below(locks + 2) as u16, site: 9 };
+        } else if event.kind == 1 && held.iter().enumerate().any(|(u, h)| u != t && h.contains(&m)) {
+            continue;
+        } else if event.kind == 1 && held[t].len() == 8 && !held[t].contains(&m) {
+            continue;
+        }
+        event.site = dice.below(65536) as u16;
+        if let Some(mine) = held.get_mut(event.thread as usize) {
+            match event.kind {
+                1 if !mine.contains(&event.lock) => mine.push(event.lock),
+                2 => mine.retain(|m| *m != event.lock),
+                _ => {}
+            }
+        }
+        events.push(event);
+    }
+    events
+}
+
+fn damage(dice: &mut Dice, image: &mut Vec<u8>) {
+    match dice.below(6) {
+        0 => {
+            let n = dice.below(image.len() + 1);
+            image.truncate(n);
+        }
+        1 => {
+            let n = image.len() + 1 + dice.below(20);
+            image.resize(n, dice.below(256) as u8);
+        }
+        2 => {
+            let at = 8 + 4 * dice.below(3);
+            let field = dice.pick(&[0u32, 1, 19, 20, 21, 4096, 4097, 65536, 0x7FFF_FFFF, 0xFFFF_FFFF, 0xFFFF_FFFA, 715_827_882]);
+            image[at..at + 4].copy_from_slice(&field.to_le_bytes());
+        }
+        3 => {
+            let at = 4 + 2 * dice.below(2);
+            let field = dice.pick(&[0u16, 1, 31, 32, 33, 255, 256, 257, 65535]);
+            image[at..at + 2].copy_from_slice(&field.to_le_bytes());
+        }
+        _ => {
+            for _ in 0..=dice.below(3) {
+                let at = dice.below(image.len());
+                image[at] = dice.below(256) as u8;
+            }
+        }
+    }
+}
+
+fn one(dice: &mut Dice) -> Case {
+    let sort = dice.below(10);
+    let threads = dice.pick(&[1, 2, 2, 3, 4, 8, 32]);
+    let locks = dice.pick(&[1, 2, 3, 4, 6, 10, 40, 256]);
+    let count = match dice.below(20) {
+        0 => 4096,
+        1..=3 => dice.below(600),
+        _ => dice.below(40),
+    };
+    let notes: Vec<u8> = (0..if dice.one_in(3) { dice.below(50) } else { 0 }).map(|_| dice.below(256) as u8).collect();
+    let wrong = if sort < 4 { 0 } else { 4 + dice.below(60) };
+    let mut image = build(threads as u16, locks as u16, &notes, &events(dice, threads, locks, count, wrong));
+    if sort == 9 {
+        image = (0..dice.below(120)).map(|_| dice.below(256) as u8).collect();
+        if dice.one_in(2) {
+            image.splice(0..0, *b"LKT1");
+        }
+    } else if sort > 6 {
+        damage(dice, &mut image);
+    }
+    let words = if dice.one_in(12) { dice.pick(&[0, 1, 12, 12287]) } else { dice.pick(&[12288, 12288, 12289, 13000]) };
+    Case { image, words, brief: true, ..Case::default() }
+}
+
+pub fn cases(seed: u64, count: usize) -> Vec<Case> {
+    let mut dice = Dice(seed.wrapping_mul(2).wrapping_add(1));
+    (0..count).map(|_| one(&mut dice)).collect()
+}
