@@ -2,35 +2,36 @@
 --     did-passes, did-refuses      a step by its verdict
 --     did-again, did-taken, did-deep, did-first, did-full, did-noted      the ways of an acquire
 --     did-released, did-not-held   the ways of a release
+--     named, did-unnamed, did-unknown     names and kinds
 use Prim.Native.Nat.{ℕ, zero, suc, _+_, _-_, _≤_, _<_}
 use native.Mathlib.Omega.{arith}
 use native.Mathlib.Decide.{ℕ-discrete, decLt}
 use mathlib.Core.Path.{_≡_, refl, sym, ap, ap₂, subst, _∙_}
-use mathlib.Core.Bool.{Bool, true, false, not, _&&_}
+use mathlib.Core.Bool.{Bool, true, false, _||_}
 use mathlib.Core.Logic.{_⊎_, inl, inr, ⊎-elim}
 use mathlib.Core.List.{List, [], _∷_, map}
-use borrow.Author.Tests.{eqb-true, lt-ltb, le-ltb, leb-false}
-use lib.Dec.{ltb}
+use borrow.Author.Tests.{eqb-true, lt-ltb, le-ltb, leb-true, leb-false}
+use lib.Dec.{leb}
 use lib.ListN.{length, getD, take, set}
 use Rattle.laws.specs.Tests.{if_then_else_, update}
 use Rattle.laws.specs.Sets.{insert, remove}
 use Rattle.laws.proofs.Tests.{either, fails, tells-not, tells-and, tells-most, tells-itself, update-here, update-there}
 use Rattle.model.specs.declared.Event.{Event}
 use Rattle.model.specs.declared.Limits.{Limits}
-use Rattle.model.specs.Refusals.{Verdict, passes, refuses, number, numberOf, Refusal, Taken, Deep, NotHeld, Full}
+use Rattle.model.specs.Refusals.{Verdict, passes, refuses, number, numberOf, Refusal, Kind, Thread, Lock, Taken, Deep, NotHeld, Full}
 use Rattle.model.specs.Holds.{mostHeld, Holding, locks, holds, taken, released}
 use Rattle.model.specs.Rows.{mostRows, Dependency, Row, known, fullFor, arose, deps}
 use Rattle.model.specs.Table.{padded, keyWords}
-use Rattle.model.specs.Trace.{State, holdsIt, elsewhere, dependency, arises, refusal, acquired, gaveUp, after}
+use Rattle.model.specs.Trace.{acquires, releases, State, holdsIt, elsewhere, dependency, arises, refusal, acquired, gaveUp, after}
 use Rattle.model.proofs.Holds.{tells-holds, locks-taken-new, locks-taken-again, locks-released}
-use Rattle.model.proofs.Passing.{depth, refuse-taken, refuse-deep, refuse-full, refuse-not-held, pass-again, pass-first, pass-known, pass-new, pass-release, after-acquire, after-release}
+use Rattle.model.proofs.Passing.{depth, refuse-kind, refuse-thread, refuse-lock, refuse-taken, refuse-deep, refuse-full, refuse-not-held, pass-again, pass-first, pass-known, pass-new, pass-release, after-acquire, after-release}
 use Rattle.model.proofs.Refusals.{refuses-passes}
 use Rattle.model.proofs.Sound.{Sound}
 use Rattle.holds.specs.declared.Hold.{Hold}
 use Rattle.holds.specs.declared.Asked.{Asked}
 use Rattle.holds.specs.Hold.{inPlaces, laid, askedOf, takenOf, releasedOf}
 use Rattle.holds.proofs.Laid.{ask-laid, take-laid, release-laid}
-use Rattle.reader.specs.Working.{Tabled, Keyed, Owned, Named, Lies, stepped, Did}
+use Rattle.reader.specs.Working.{Tabled, Keyed, Owned, Named, Lies, stepped, Did, unnamedOf}
 use Rattle.reader.proofs.Keys.{padded-seven}
 use Rattle.reader.proofs.Owners.{owned-same, owned-taken, owned-released, elsewhere-none, elsewhere-some}
 
@@ -173,3 +174,30 @@ module _ (n : Limits) (s : State) (p : ℕ) (e : Event) (N : Named 2 n e) (u : e
 
   pub did-not-held : holdsIt s e ≡ false → Did n s p e t₀ 11 hold rows ws owner
   did-not-held y = did-refuses n s p e t₀ hold rows ws owner NotHeld (refuse-not-held n s e (N .kind) (N .thread) (N .lock) y) (L .table) (L .owned)
+
+-- ---- an event whose kind or names are refused
+
+module _ (n : Limits) (e : Event) (w : ℕ) (q : w ≡ unnamedOf n e) where
+  pub named : (k : ℕ) → e .kind ≡ k → w ≡ 0 → Named k n e
+  unfolding unnamedOf
+  named k d z = go (leb (n .threads) (e .thread)) (leb (n .locks) (e .lock)) refl refl (sym q ∙ z)
+    where
+      go : (a b : Bool) → leb (n .threads) (e .thread) ≡ a → leb (n .locks) (e .lock) ≡ b → _≡_ {A = ℕ} (if a then 7 else if b then 8 else 0) 0 → Named k n e
+      go true b f g x = absurd (let y : ⊥ = omega arith in y)
+      go false true f g x = absurd (let y : ⊥ = omega arith in y)
+      go false false f g x = record { kind = d; thread = leb-false (n .threads) (e .thread) f; lock = leb-false (n .locks) (e .lock) g }
+
+  module _ (s : State) (p : ℕ) (t₀ : List ℕ) (hold : Hold) (rows : ℕ) (ws owner : List ℕ) (L : Lies n s p t₀ rows ws owner) where
+    pub did-unnamed : (acquires e || releases e) ≡ true → (w ≡ 0 → ⊥) → Did n s p e t₀ w hold rows ws owner
+    unfolding unnamedOf
+    did-unnamed k z = go (leb (n .threads) (e .thread)) (leb (n .locks) (e .lock)) refl refl q
+      where
+        go : (a b : Bool) → leb (n .threads) (e .thread) ≡ a → leb (n .locks) (e .lock) ≡ b → w ≡ (if a then 7 else if b then 8 else 0) → Did n s p e t₀ w hold rows ws owner
+        go true b f g x = rw x (did-refuses n s p e t₀ hold rows ws owner Thread (refuse-thread n s e k (leb-true (n .threads) (e .thread) f)) (L .table) (L .owned))
+        go false true f g x =
+            rw x
+            (did-refuses n s p e t₀ hold rows ws owner Lock (refuse-lock n s e k (leb-false (n .threads) (e .thread) f) (leb-true (n .locks) (e .lock) g)) (L .table) (L .owned))
+        go false false f g x = absurd (z x)
+
+    pub did-unknown : (e .kind ≡ 1 → ⊥) → (e .kind ≡ 2 → ⊥) → Did n s p e t₀ 6 hold rows ws owner
+    did-unknown a b = did-refuses n s p e t₀ hold rows ws owner Kind (refuse-kind n s e a b) (L .table) (L .owned)
