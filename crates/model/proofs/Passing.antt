@@ -12,11 +12,12 @@ use mathlib.Core.List.{List}
 use lib.ListN.{length}
 use lib.Dec.{eqb, leb, ltb}
 use borrow.Author.Tests.{eq-eqb, ne-eqb, le-leb, lt-leb, lt-ltb, le-ltb, leb-false, not-false}
-use Rattle.laws.proofs.Tests.{tells-same, tells-or}
+use Rattle.laws.specs.Tests.{if_then_else_}
+use Rattle.laws.proofs.Tests.{tells-same, tells-or, update-there}
 use Rattle.model.specs.declared.Event.{Event}
 use Rattle.model.specs.declared.Limits.{Limits}
 use Rattle.model.specs.Refusals.{Verdict, passes, refuses, Refusal, Kind, Thread, Lock, Taken, Deep, NotHeld, Full, _if_else_}
-use Rattle.model.specs.Holds.{mostHeld, locks}
+use Rattle.model.specs.Holds.{mostHeld, locks, taken, released}
 use Rattle.model.specs.Rows.{mostRows, known}
 use Rattle.model.specs.Trace.{acquires, releases, State, holdsIt, elsewhere, dependency, arises, refusal, acquired, gaveUp, after}
 use Rattle.model.proofs.Refusals.{if-passes}
@@ -153,3 +154,13 @@ module _ (s : State) (p : ℕ) (e : Event) where
   pub after-release : e .kind ≡ 2 → after s p e ≡ gaveUp s e
   unfolding after
   after-release k = rw (not-one (e .kind) k, eq-eqb (e .kind) 2 k)
+
+  -- what the other threads hold
+  pub held-after : (u : ℕ) → (u ≡ e .thread → ⊥) → after s p e .held u ≡ s .held u
+  unfolding after
+  held-after u d = go (acquires e) (releases e)
+    where
+      go : (a b : Bool) → (if a then acquired s p e else if b then gaveUp s e else s) .held u ≡ s .held u
+      go true b = update-there (s .held) (e .thread) (taken (e .lock) (s .held (e .thread))) u d
+      go false true = update-there (s .held) (e .thread) (released (e .lock) (s .held (e .thread))) u d
+      go false false = refl

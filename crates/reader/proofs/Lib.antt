@@ -5,3 +5,4 @@ pub mod Tables
 pub mod Noting
 pub mod Owners
 pub mod Steps
+pub mod Running

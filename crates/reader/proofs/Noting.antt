@@ -9,7 +9,6 @@ use native.Mathlib.Decide.{ℕ-discrete, decLe}
 use mathlib.Core.Path.{_≡_, refl, sym, ap, subst, _∙_}
 use mathlib.Core.Bool.{Bool, true, false}
 use mathlib.Core.List.{List, [], _∷_, _++_}
-use mathlib.Core.Logic.{inl, inr}
 use borrow.Author.Tests.{eqb-true, eq-eqb, le-leb, lt-leb}
 use lib.ListN.{length, getD, set, length-set, length-append, length-map}
 use lib.Seq.{sets, length-sets}
@@ -17,14 +16,14 @@ use Rattle.laws.specs.Tests.{if_then_else_}
 use Rattle.laws.specs.Lists.{In, same}
 use Rattle.laws.specs.Memory.{over}
 use Rattle.laws.proofs.Tests.{never}
-use Rattle.laws.proofs.Lists.{in-right, in-map, tells-same-list}
+use Rattle.laws.proofs.Lists.{in-map, tells-same-list}
 use Rattle.model.specs.Rows.{mostRows, Dependency, Row, known, newRow, counted, fullFor, arose, deps}
 use Rattle.model.specs.Table.{rowSize, keyWords, tableWords, tableRoom}
 use Rattle.model.proofs.Rows.{tells-known, arose-known, arose-new}
 use Rattle.reader.specs.Working.{keySize, keyAt, bucketOf, inBucket, lastBelow, Linked, Tabled, Keyed}
 use Rattle.reader.proofs.Keys.{key-length}
 use Rattle.reader.proofs.Index.{last-most, last-passes, last-skips, linked-kept, linked-new}
-use Rattle.reader.proofs.Tables.{Split, split, tabled-counted, tabled-new, key-counted, key-put, key-others, known-there, known-nowhere}
+use Rattle.reader.proofs.Tables.{split, split-in, tabled-counted, tabled-new, key-counted, key-put, key-others, known-there, known-nowhere}
 
 pub record Seeking (ws key : List ℕ) (rows b k : ℕ) : Type 0 where
   pub within : k ≤ rows
@@ -98,8 +97,7 @@ module _ (ws key : List ℕ) (rows p : ℕ) (rs : List Row) (t₀ : List ℕ) (d
       let h : r < length rs = omega (arith, T .count) in
       let w = split rs r h in
       let x : w .row .what ≡ d = known-there rs (K .each) t₀ d r w (ap (λ (v : List ℕ). keyAt v r) (sym (T .words)) ∙ tells-same-list (keyAt ws r) key .0 q ∙ e) in
-      let i : In (w .row) rs = subst (λ (v : List Row). In (w .row) v) (sym (w .parts)) (in-right (w .row) (w .before) (w .row ∷ w .after) (inl refl)) in
-      let k : known d rs ≡ true = tells-known d rs .1 (subst (λ (z : Dependency). In z (deps rs)) x (in-map (λ (z : Row). z .what) (w .row) rs i)) in
+      let k : known d rs ≡ true = tells-known d rs .1 (subst (λ (z : Dependency). In z (deps rs)) x (in-map (λ (z : Row). z .what) (w .row) rs (split-in rs r w))) in
       rw (k, arose-known d p rs k)
       (refl,
       record {

@@ -15,7 +15,7 @@ use lib.Dec.{leb}
 use lib.ListN.{length, getD, take, set}
 use Rattle.laws.specs.Tests.{if_then_else_, update}
 use Rattle.laws.specs.Sets.{insert, remove}
-use Rattle.laws.proofs.Tests.{either, fails, tells-not, tells-and, tells-most, tells-itself, update-here, update-there}
+use Rattle.laws.proofs.Tests.{either, fails, tells-not, tells-and, tells-most, tells-itself, update-here}
 use Rattle.model.specs.declared.Event.{Event}
 use Rattle.model.specs.declared.Limits.{Limits}
 use Rattle.model.specs.Refusals.{Verdict, passes, refuses, number, numberOf, Refusal, Kind, Thread, Lock, Taken, Deep, NotHeld, Full}
@@ -24,7 +24,7 @@ use Rattle.model.specs.Rows.{mostRows, Dependency, Row, known, fullFor, arose, 
 use Rattle.model.specs.Table.{padded, keyWords}
 use Rattle.model.specs.Trace.{acquires, releases, State, holdsIt, elsewhere, dependency, arises, refusal, acquired, gaveUp, after}
 use Rattle.model.proofs.Holds.{tells-holds, locks-taken-new, locks-taken-again, locks-released}
-use Rattle.model.proofs.Passing.{depth, refuse-kind, refuse-thread, refuse-lock, refuse-taken, refuse-deep, refuse-full, refuse-not-held, pass-again, pass-first, pass-known, pass-new, pass-release, after-acquire, after-release}
+use Rattle.model.proofs.Passing.{depth, refuse-kind, refuse-thread, refuse-lock, refuse-taken, refuse-deep, refuse-full, refuse-not-held, pass-again, pass-first, pass-known, pass-new, pass-release, after-acquire, after-release, held-after}
 use Rattle.model.proofs.Refusals.{refuses-passes}
 use Rattle.model.proofs.Sound.{Sound}
 use Rattle.holds.specs.declared.Hold.{Hold}
@@ -60,10 +60,6 @@ module _ (s : State) (p : ℕ) (e : Event) (k : e .kind ≡ 1) where
       ap (λ (x : State). x .held (e .thread)) (after-acquire s p e k)
       ∙ update-here (s .held) (e .thread) (taken (e .lock) (s .held (e .thread))) (e .thread) refl
 
-  held-there : (u : ℕ) → (u ≡ e .thread → ⊥) → after s p e .held u ≡ s .held u
-  held-there u d =
-      ap (λ (x : State). x .held u) (after-acquire s p e k) ∙ update-there (s .held) (e .thread) (taken (e .lock) (s .held (e .thread))) u d
-
   rows-kept : arises s e ≡ false → after s p e .rows ≡ s .rows
   rows-kept a = ap (λ (x : State). x .rows) (after-acquire s p e k) ∙ rw a
 
@@ -89,7 +85,7 @@ module _ (n : Limits) (s : State) (p : ℕ) (e : Event) (N : Named 1 n e) (T : n
     where
       go : (v : ℕ) → locks (after s p e .held (e .thread)) ≡ locks (s .held (e .thread)) → Dec (v ≡ e .thread) → locks (after s p e .held v) ≡ locks (s .held v)
       go v q (yes d) = rw d q
-      go v q (no d) = ap locks (held-there s p e (N .kind) v d)
+      go v q (no d) = ap locks (held-after s p e v d)
 
   module _ (y : holdsIt s e ≡ false) where
     pub did-taken : (getD owner (e .lock) 0 ≡ 0 → ⊥) → Did n s p e t₀ 9 hold rows ws owner

@@ -1,6 +1,7 @@
 -- Rows where they lie in the lent table.
 --     Short rs                 each row's H fits in its seven places
 --     table-length             how many words rows have
+--     Split, split, split-in   the row in a place, with those before and after it
 --     key-there, times-there   the key of a row, and its occurrences, by its place
 --     key-counted, key-put     counting and a new row leave the keys of the other rows
 --     tabled-counted           one occurrence more
@@ -59,6 +60,9 @@ split rs r h =
       place = length-take-le r rs (omega arith);
     }
 
+pub split-in : (rs : List Row) (r : ℕ) (w : Split rs r) → In (w .row) rs
+split-in rs r w = subst (λ (l : List Row). In (w .row) l) (sym (w .parts)) (in-right (w .row) (w .before) (w .row ∷ w .after) (inl refl))
+
 module _ (rs : List Row) (s : Short rs) (t : List ℕ) (r : ℕ) (w : Split rs r) where
   front : List ℕ
   front = tableWords (w .before)
@@ -69,8 +73,8 @@ module _ (rs : List Row) (s : Short rs) (t : List ℕ) (r : ℕ) (w : Split rs r
   short-before : Short (w .before)
   short-before q i = s q (subst (λ (l : List Row). In q l) (sym (w .parts)) (in-left q (w .before) (w .row ∷ w .after) i))
 
-  pub short-row : length (w .row .what .held) ≤ 7
-  short-row = s (w .row) (subst (λ (l : List Row). In (w .row) l) (sym (w .parts)) (in-right (w .row) (w .before) (w .row ∷ w .after) (inl refl)))
+  short-row : length (w .row .what .held) ≤ 7
+  short-row = s (w .row) (split-in rs r w)
 
   front-length : length front ≡ r * rowSize
   unfolding front

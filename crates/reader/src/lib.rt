@@ -4,7 +4,7 @@ ghost use Prim.Native.Nat.{_+_};
 ghost use lib.ListN.{length};
 ghost use denote.Ref.{ptr};
 ghost use Rattle.model.specs.Reads.{headerNumber, notesFound, notesPlace, reading};
-ghost use Rattle.reader.specs.Public.{outcome};
+ghost use Rattle.reader.specs.Public.{outcome, nothingRead};
 use model::Limits;
 use model::Reading;
 
@@ -32,7 +32,7 @@ pub fn notes(image: &[u8]) -> &[u8]
 }
 
 fn refused(number: u16) -> Reading
-    ensures { λ r. ⌜ (r .number ≡ number) × (r .place ≡ 0) × (r .rows ≡ 0) ⌝ }
+    ensures { λ r. ⌜ r ≡ nothingRead number ⌝ }
 {
     Reading {
         number,
