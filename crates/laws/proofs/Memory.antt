@@ -96,5 +96,5 @@ over-more ws vs xs h =
     let l : length ws + length vs ≤ length (over ws xs) = omega (arith, over-length ws xs (omega arith)) in
     sets-eq vs (over ws xs) (length ws) l
     ∙ ap₂ _++_
-      (ap (λ (q : List ℕ). q ++ vs) (take-append-seam ws (drop (length ws) xs)))
-      (drop-append-add ws (drop (length ws) xs) (length vs) ∙ drop-drop (length vs) (length ws) xs ∙ ap (λ (n : ℕ). drop n xs) (sym (length-append ws vs)))
+    (ap (λ (q : List ℕ). q ++ vs) (take-append-seam ws (drop (length ws) xs)))
+    (drop-append-add ws (drop (length ws) xs) (length vs) ∙ drop-drop (length vs) (length ws) xs ∙ ap (λ (n : ℕ). drop n xs) (sym (length-append ws vs)))

@@ -48,8 +48,8 @@ unfolding countsFit placesFit
 accepted b h =
     let t = tested b h in
     let k =
-      tells-and (tells-and (tells-most 1 (threads b)) (tells-most (threads b) 32))
-      (tells-and (tells-and (tells-most 1 (locks b)) (tells-most (locks b) 256)) (tells-most (events b) 4096)) .0 (t .2) in
+    tells-and (tells-and (tells-most 1 (threads b)) (tells-most (threads b) 32))
+    (tells-and (tells-and (tells-most 1 (locks b)) (tells-most (locks b) 256)) (tells-most (events b) 4096)) .0 (t .2) in
     let q = tells-and (tells-most headerSize (offset b)) (tells-and (tells-same (whole b) (length b)) (tells-same (offset b + eventSize * events b) (whole b))) .0 (t .3) in
     record {
       long = ltb-false (length b) headerSize (t .0);

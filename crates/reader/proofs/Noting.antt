@@ -98,13 +98,14 @@ module _ (ws key : List ℕ) (rows p : ℕ) (rs : List Row) (t₀ : List ℕ) (d
       let w = split rs r h in
       let x : w .row .what ≡ d = known-there rs (K .each) t₀ d r w (ap (λ (v : List ℕ). keyAt v r) (sym (T .words)) ∙ tells-same-list (keyAt ws r) key .0 q ∙ e) in
       let k : known d rs ≡ true = tells-known d rs .1 (subst (λ (z : Dependency). In z (deps rs)) x (in-map (λ (z : Row). z .what) (w .row) rs (split-in rs r w))) in
-      rw (k, arose-known d p rs k)
-      (refl,
-      record {
-        count = length-map rs (counted d) ∙ T .count;
-        same = T .same ∙ sym (length-set ws (r * rowSize + 11) (getD ws (r * rowSize + 11) 0 + 1));
-        words = ap (λ (v : List ℕ). set v (r * rowSize + 11) (getD v (r * rowSize + 11) 0 + 1)) (T .words) ∙ tabled-counted rs (K .each) t₀ r w d x (K .apart);
-      })
+      rw (k, arose-known d p rs k) (
+        refl,
+        record {
+          count = length-map rs (counted d) ∙ T .count;
+          same = T .same ∙ sym (length-set ws (r * rowSize + 11) (getD ws (r * rowSize + 11) 0 + 1));
+          words = ap (λ (v : List ℕ). set v (r * rowSize + 11) (getD v (r * rowSize + 11) 0 + 1)) (T .words) ∙ tabled-counted rs (K .each) t₀ r w d x (K .apart);
+        },
+      )
 
   module _ (u : (r : ℕ) → r < rows → keyAt ws r ≡ key → ⊥) where
     unknown : known d rs ≡ false
@@ -119,12 +120,13 @@ module _ (ws key : List ℕ) (rows p : ℕ) (rs : List Row) (t₀ : List ℕ) (d
     note-new l room =
         let m : length rs < mostRows = omega (arith, T .count) in
         let h : length rs * rowSize + rowSize ≤ length t₀ = omega (arith, T .same) in
-        rw (unknown, lt-leb mostRows (length rs) m, arose-new d p rs unknown)
-        (refl,
-        record {
-          count = length-append rs (newRow d p ∷ []) ∙ ap (λ (z : ℕ). z + 1) (T .count);
-          same = T .same ∙ sym (length-sets ws (rows * rowSize) (key ++ p ∷ 1 ∷ []));
-          words =
-              rw (e, T .words, ← T .count)
-              (tabled-new rs (K .each) t₀ d p (K .this) h);
-        })
+        rw (unknown, lt-leb mostRows (length rs) m, arose-new d p rs unknown) (
+          refl,
+          record {
+            count = length-append rs (newRow d p ∷ []) ∙ ap (λ (z : ℕ). z + 1) (T .count);
+            same = T .same ∙ sym (length-sets ws (rows * rowSize) (key ++ p ∷ 1 ∷ []));
+            words =
+                rw (e, T .words, ← T .count)
+                (tabled-new rs (K .each) t₀ d p (K .this) h);
+          },
+        )

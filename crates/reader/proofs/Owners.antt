@@ -47,10 +47,9 @@ owned-same f g owner e O = record { long = O .long; most = O .most; tells = λ t
 
 -- a change of one thread's holds: thread t then holds h, and lock m has the owner v
 module _ (f : ℕ → Holding) (owner : List ℕ) (O : Owned f owner) (t m : ℕ) (h : Holding) (v : ℕ) (mine : m < 256) (few : v ≤ 32)
-  (others : (k : ℕ) → (k ≡ m → ⊥) → holds k h ≡ holds k (f t))
-  (here : t < 32 → holds m h ≡ eqb v (suc t))
-  (there : (u : ℕ) → u < 32 → (u ≡ t → ⊥) → holds m (f u) ≡ eqb v (suc u)) where
-
+    (others : (k : ℕ) → (k ≡ m → ⊥) → holds k h ≡ holds k (f t))
+    (here : t < 32 → holds m h ≡ eqb v (suc t))
+    (there : (u : ℕ) → u < 32 → (u ≡ t → ⊥) → holds m (f u) ≡ eqb v (suc u)) where
   most : (k : ℕ) → getD (set owner m v) k 0 ≤ 32
   most k = go (ℕ-discrete k m)
     where

@@ -99,8 +99,7 @@ module _ (n : Limits) (bs t₀ ws : List ℕ) (holds : List Hold) (owner head ne
 
   -- the next event, and what a step makes of it
   module _ (h : at + eventSize ≤ length bs) (T : n .threads ≤ 32) (e : Event) (q : e ≡ eventOf (drop at bs)) (answer : ℕ) (left : Hold) (rows′ : ℕ) (ws′ owner′ : List ℕ)
-    (D : Did n (R .state) p e t₀ answer left rows′ ws′ owner′) (head′ next′ : List ℕ) where
-
+      (D : Did n (R .state) p e t₀ answer left rows′ ws′ owner′) (head′ next′ : List ℕ) where
     -- the events left: this one, and the others
     next-one : (count : ℕ) → length bs ≡ eventSize * count → trace n (eventsFrom count bs) ≡ reads n (R .state) p (e ∷ eventsFrom (count - (p + 1)) (drop (at + eventSize) bs))
     next-one count c =

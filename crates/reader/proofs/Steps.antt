@@ -67,8 +67,7 @@ module _ (s : State) (p : ℕ) (e : Event) (k : e .kind ≡ 1) where
   rows-arose a = ap (λ (x : State). x .rows) (after-acquire s p e k) ∙ rw a
 
 module _ (n : Limits) (s : State) (p : ℕ) (e : Event) (N : Named 1 n e) (T : n .threads ≤ 32) (b : e .lock < 256)
-  (hold : Hold) (H : hold ≡ laid (s .held (e .thread))) (t₀ : List ℕ) (rows : ℕ) (ws owner : List ℕ) (L : Lies n s p t₀ rows ws owner) where
-
+    (hold : Hold) (H : hold ≡ laid (s .held (e .thread))) (t₀ : List ℕ) (rows : ℕ) (ws owner : List ℕ) (L : Lies n s p t₀ rows ws owner) where
   u : e .thread < 32
   u = omega (arith, N .thread)
 
@@ -156,8 +155,7 @@ module _ (n : Limits) (s : State) (p : ℕ) (e : Event) (N : Named 1 n e) (T : n
 -- ---- a release
 
 module _ (n : Limits) (s : State) (p : ℕ) (e : Event) (N : Named 2 n e) (u : e .thread < 32) (b : e .lock < 256)
-  (hold : Hold) (H : hold ≡ laid (s .held (e .thread))) (t₀ : List ℕ) (rows : ℕ) (ws owner : List ℕ) (L : Lies n s p t₀ rows ws owner) where
-
+    (hold : Hold) (H : hold ≡ laid (s .held (e .thread))) (t₀ : List ℕ) (rows : ℕ) (ws owner : List ℕ) (L : Lies n s p t₀ rows ws owner) where
   pub did-released : holdsIt s e ≡ true → (left : Hold) → left ≡ releasedOf hold (e .lock) → Did n s p e t₀ 0 left rows ws (set owner (e .lock) 0)
   did-released y left q =
       let mine = s .held (e .thread) in

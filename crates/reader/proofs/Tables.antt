@@ -115,7 +115,7 @@ module _ (rs : List Row) (s : Short rs) (t : List ℕ) (r : ℕ) (w : Split rs r
     other : (In d (deps (w .before)) → ⊥) × (In d (deps (w .after)) → ⊥)
     other =
         let q = append-pairwise (λ x y. x ≡ y → ⊥) (deps (w .before)) (w .row .what ∷ deps (w .after))
-              (subst (Pairwise (λ x y. x ≡ y → ⊥)) (ap deps (w .parts) ∙ map-append (λ (x : Row). x .what) (w .before) (w .row ∷ w .after)) a) in
+        (subst (Pairwise (λ x y. x ≡ y → ⊥)) (ap deps (w .parts) ∙ map-append (λ (x : Row). x .what) (w .before) (w .row ∷ w .after)) a) in
         (λ i. q .2 d (w .row .what) i (inl refl) (sym e), λ i. q .1 .0 d i e)
 
     -- one row is d's, and it alone is counted

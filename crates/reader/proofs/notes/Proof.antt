@@ -1,16 +1,12 @@
 -- The notes are the image's own bytes from 20 to O where the header passes, and nothing at its start where it does not.
 use native.Mathlib.Omega.{arith}
-use mathlib.Core.Path.{_≡_, refl, sym, _∙_}
+use mathlib.Core.Path.{refl, sym, _∙_}
 use Rattle.model.specs.Image.{notesOf}
 use Rattle.model.proofs.Refusals.{number-passes}
 use Rattle.model.proofs.Image.{accepted, notes-refused, notes-passed}
 use borrow.Author.Needs.{needs}
 use Rattle.reader.proofs.notes.Statement.{statement}
 use Rattle.reader.proofs.notes.Tie as tie
-use Rattle.reader.proofs.notes.Reads as reads
-use Rattle.reader.proofs.notes.Lts as lts
-use Rattle.reader.proofs.image.first_refusal.Reads as first-refusal-reads
-use Rattle.reader.proofs.image.long.Reads as long-reads
 
 first-refusal-requires : tie.Need-first-refusal-requires
 first-refusal-requires c κs = search needs

@@ -1,8 +1,8 @@
 -- The header decides; then the events from O on are the trace.
 use native.Mathlib.Omega.{arith}
-use Prim.Native.Nat.{ℕ, _+_, _*_, _-_, _≤_, _<_}
-use mathlib.Core.Path.{_≡_, refl, sym, ap, _∙_}
-use lib.ListN.{length, drop}
+use Prim.Native.Nat.{ℕ}
+use mathlib.Core.Path.{_≡_, sym, ap, _∙_}
+use lib.ListN.{length}
 use Rattle.model.proofs.Refusals.{number-passes}
 use Rattle.model.proofs.Image.{Accepted, accepted, small-refused, image-refused, image-passed}
 use Rattle.model.specs.declared.Limits.{Limits}
@@ -14,13 +14,6 @@ use Rattle.reader.proofs.Running.{rest-length, image-told}
 use borrow.Author.Needs.{needs}
 use Rattle.reader.proofs.read.Statement.{statement}
 use Rattle.reader.proofs.read.Tie as tie
-use Rattle.reader.proofs.read.Reads as reads
-use Rattle.reader.proofs.read.Lts as lts
-use Rattle.reader.proofs.image.first_refusal.Reads as first-refusal-reads
-use Rattle.reader.proofs.image.long.Reads as long-reads
-use Rattle.reader.proofs.image.word.Reads as word-reads
-use Rattle.reader.proofs.refused.Reads as refused-reads
-use Rattle.reader.proofs.trace.run.Reads as run-reads
 
 -- what the header's checks leave
 good : (c : tie.Else2) → Accepted (c .before .before .before .before .before .args .image .now)
@@ -69,9 +62,12 @@ run-requires : tie.Need-run-requires
 run-requires c κs =
     let f = c .before .before .before .before .before in
     let g = good f in
-    let o = c .before .before .long in
-    (omega (arith, g .fewThreads, c .before .before .before .before .word .ensures), omega (arith, g .fewLocks, c .before .before .before .word2 .ensures),
-    omega (arith, g .fewEvents, rest-length (f .before .before .before .before .before .args .image .now) g (o .result) (o .ensures .0)), f .before .before .if1 .left)
+    let o = c .before .before .long in (
+      omega (arith, g .fewThreads, c .before .before .before .before .word .ensures),
+      omega (arith, g .fewLocks, c .before .before .before .word2 .ensures),
+      omega (arith, g .fewEvents, rest-length (f .before .before .before .before .before .args .image .now) g (o .result) (o .ensures .0)),
+      f .before .before .if1 .left,
+    )
 
 same-length : tie.Need-same-length
 same-length c = search needs

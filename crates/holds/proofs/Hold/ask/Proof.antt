@@ -1,17 +1,14 @@
 -- Asking: the places passed have not the lock, so those left decide.
 use native.Mathlib.Omega.{arith}
 use borrow.Author.Needs.{needs}
-use Prim.Native.Nat.{_+_, _-_, _≤_, _<_}
+use Prim.Native.Nat.{_-_, _≤_, _<_}
 use mathlib.Core.Path.{_≡_, refl, sym, _∙_}
-use lib.ListN.{length, drop, take, getD, length-take}
+use lib.ListN.{length, drop, take, length-take}
 use lib.Seq.{getD-take}
 use Rattle.laws.specs.Sets.{has}
 use Rattle.holds.proofs.Loops.{has-here, has-on, has-none}
 use Rattle.holds.proofs.Hold.ask.Statement.{statement}
 use Rattle.holds.proofs.Hold.ask.Tie as tie
-use Rattle.holds.proofs.Hold.ask.Reads as reads
-use Rattle.holds.proofs.Hold.ask.Lts as lts
-use Rattle.holds.proofs.used.Reads as used-reads
 
 abbrev Inv-loop : tie.InvT-loop
 Inv-loop m self n i₀ i = (i ≤ n) × (n ≤ 8) × (length (take n (self .places)) ≡ n) × (has m (take n (self .places)) ≡ has m (drop i (take n (self .places))))

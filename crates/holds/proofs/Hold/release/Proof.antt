@@ -1,7 +1,7 @@
 -- Taking out: the new places have what stays of those passed.
 use native.Mathlib.Omega.{arith}
 use borrow.Author.Needs.{needs}
-use Prim.Native.Nat.{_+_, _-_, _≤_, _<_}
+use Prim.Native.Nat.{_-_, _≤_, _<_}
 use mathlib.Core.Path.{_≡_, refl, sym, _∙_}
 use mathlib.Core.Logic.{⊎-elim}
 use lib.ListN.{length, take, length-take}
@@ -9,9 +9,6 @@ use lib.Seq.{getD-take}
 use Rattle.holds.proofs.Loops.{Out, out-gone, out-stays, out-done}
 use Rattle.holds.proofs.Hold.release.Statement.{statement}
 use Rattle.holds.proofs.Hold.release.Tie as tie
-use Rattle.holds.proofs.Hold.release.Reads as reads
-use Rattle.holds.proofs.Hold.release.Lts as lts
-use Rattle.holds.proofs.used.Reads as used-reads
 
 abbrev Inv-loop : tie.InvT-loop
 Inv-loop m self n places₀ size₀ i₀ places size i = (i ≤ n) × (n ≤ 8) × (length (take n (self .places)) ≡ n) × Out m (take n (self .places)) i places size

@@ -12,8 +12,6 @@ use Rattle.laws.specs.Sets.{insert}
 use Rattle.holds.proofs.Loops.{carried, stored, carry-moving, carry-start, carry-pass, carry-done}
 use Rattle.holds.proofs.Hold.take.Statement.{statement}
 use Rattle.holds.proofs.Hold.take.Tie as tie
-use Rattle.holds.proofs.Hold.take.Reads as reads
-use Rattle.holds.proofs.Hold.take.Lts as lts
 
 abbrev Inv-loop : tie.InvT-loop
 Inv-loop m self₀ n carry₀ moving₀ i₀ self carry moving i =

@@ -3,10 +3,6 @@ use Rattle.model.specs.Image.{countsFit}
 use borrow.Author.Needs.{needs}
 use Rattle.reader.proofs.image.counts_fit.Statement.{statement}
 use Rattle.reader.proofs.image.counts_fit.Tie as tie
-use Rattle.reader.proofs.image.counts_fit.Reads as reads
-use Rattle.reader.proofs.image.counts_fit.Lts as lts
-use Rattle.reader.proofs.image.long.Reads as long-reads
-use Rattle.reader.proofs.image.word.Reads as word-reads
 
 word-requires : tie.Need-word-requires
 word-requires c κs = search needs

@@ -2,9 +2,6 @@ use Rattle.reader.proofs.Events.{event-at}
 use borrow.Author.Needs.{needs}
 use Rattle.reader.proofs.image.event_at.Statement.{statement}
 use Rattle.reader.proofs.image.event_at.Tie as tie
-use Rattle.reader.proofs.image.event_at.Reads as reads
-use Rattle.reader.proofs.image.event_at.Lts as lts
-use Rattle.reader.proofs.image.word.Reads as word-reads
 
 shared-slice-read-t4 : tie.Need-shared-slice-read-t4
 shared-slice-read-t4 c = search needs

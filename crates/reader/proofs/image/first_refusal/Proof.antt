@@ -3,11 +3,6 @@ use Rattle.model.specs.Image.{header}
 use borrow.Author.Needs.{needs}
 use Rattle.reader.proofs.image.first_refusal.Statement.{statement}
 use Rattle.reader.proofs.image.first_refusal.Tie as tie
-use Rattle.reader.proofs.image.first_refusal.Reads as reads
-use Rattle.reader.proofs.image.first_refusal.Lts as lts
-use Rattle.reader.proofs.image.counts_fit.Reads as counts-fit-reads
-use Rattle.reader.proofs.image.marked.Reads as marked-reads
-use Rattle.reader.proofs.image.places_fit.Reads as places-fit-reads
 
 returns : tie.Need-returns
 unfolding header

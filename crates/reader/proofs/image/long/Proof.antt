@@ -1,13 +1,8 @@
 use native.Mathlib.Omega.{arith}
-use mathlib.Core.Path.{_≡_}
 use Rattle.laws.proofs.Memory.{field-four}
 use borrow.Author.Needs.{needs}
 use Rattle.reader.proofs.image.long.Statement.{statement}
 use Rattle.reader.proofs.image.long.Tie as tie
-use Rattle.reader.proofs.image.long.Reads as reads
-use Rattle.reader.proofs.image.long.Lts as lts
-use Rattle.reader.proofs.image.wide.Reads as wide-reads
-use Rattle.reader.proofs.image.word.Reads as word-reads
 
 word-requires : tie.Need-word-requires
 word-requires c κs = search needs

@@ -1,18 +1,16 @@
 -- The bytes passed are the mark's, so those left decide.
 use native.Mathlib.Omega.{arith}
 use borrow.Author.Needs.{needs}
-use Prim.Native.Nat.{ℕ, _+_, _-_, _≤_, _<_}
+use Prim.Native.Nat.{_-_, _≤_}
 use native.Mathlib.Nat.{zero-add}
-use mathlib.Core.Path.{_≡_, refl, sym, ap, _∙_}
-use lib.ListN.{length, drop, getD}
+use mathlib.Core.Path.{_≡_, refl, sym, _∙_}
+use lib.ListN.{length, drop}
 use Rattle.laws.specs.Lists.{same}
 use Rattle.laws.specs.Memory.{part}
 use Rattle.laws.proofs.Memory.{same-on, same-differ, same-done, part-length, part-at}
 use Rattle.model.specs.Image.{mark}
 use Rattle.reader.proofs.image.marked.Statement.{statement}
 use Rattle.reader.proofs.image.marked.Tie as tie
-use Rattle.reader.proofs.image.marked.Reads as reads
-use Rattle.reader.proofs.image.marked.Lts as lts
 
 abbrev Inv-loop : tie.InvT-loop
 Inv-loop image i₀ i = (i ≤ 4) × (length (part 0 4 image) ≡ 4) × (same (part 0 4 image) mark ≡ same (drop i (part 0 4 image)) (drop i mark))

@@ -3,9 +3,6 @@ use Rattle.model.specs.Image.{placesFit}
 use borrow.Author.Needs.{needs}
 use Rattle.reader.proofs.image.places_fit.Statement.{statement}
 use Rattle.reader.proofs.image.places_fit.Tie as tie
-use Rattle.reader.proofs.image.places_fit.Reads as reads
-use Rattle.reader.proofs.image.places_fit.Lts as lts
-use Rattle.reader.proofs.image.long.Reads as long-reads
 
 long-requires : tie.Need-long-requires
 long-requires c κs = search needs

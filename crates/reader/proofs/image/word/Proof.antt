@@ -5,8 +5,6 @@ use Rattle.laws.proofs.Memory.{field-two}
 use borrow.Author.Needs.{needs}
 use Rattle.reader.proofs.image.word.Statement.{statement}
 use Rattle.reader.proofs.image.word.Tie as tie
-use Rattle.reader.proofs.image.word.Reads as reads
-use Rattle.reader.proofs.image.word.Lts as lts
 
 shared-slice-read-result : tie.Need-shared-slice-read-result
 shared-slice-read-result c = search needs

@@ -3,9 +3,6 @@ use Rattle.reader.specs.Working.{bucketOf}
 use borrow.Author.Needs.{needs}
 use Rattle.reader.proofs.table.bucket.Statement.{statement}
 use Rattle.reader.proofs.table.bucket.Tie as tie
-use Rattle.reader.proofs.table.bucket.Reads as reads
-use Rattle.reader.proofs.table.bucket.Lts as lts
-use Rattle.reader.proofs.table.wide.Reads as wide-reads
 
 array-read-wide : tie.Need-array-read-wide
 array-read-wide c = search needs

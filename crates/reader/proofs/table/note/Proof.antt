@@ -1,8 +1,8 @@
 -- The loop goes through the key's bucket; each way out is one law of `Noting`.
 use native.Mathlib.Omega.{arith}
 use borrow.Author.Needs.{needs}
-use Prim.Native.Nat.{ℕ, suc, _+_, _*_, _-_, _≤_, _<_}
-use mathlib.Core.Path.{_≡_, refl, sym, ap, subst, _∙_}
+use Prim.Native.Nat.{ℕ, _+_, _*_, _-_, _≤_, _<_}
+use mathlib.Core.Path.{_≡_, refl, sym, ap, _∙_}
 use mathlib.Core.List.{List, [], _∷_, _++_}
 use lib.Seq.{sets}
 use mathlib.Core.Bool.{true, false}
@@ -12,12 +12,6 @@ use Rattle.reader.specs.Working.{keyAt}
 use Rattle.reader.proofs.Noting.{Seeking, seek-start, seek-next, links-known, links-new, note-known, note-full, note-new}
 use Rattle.reader.proofs.table.note.Statement.{statement}
 use Rattle.reader.proofs.table.note.Tie as tie
-use Rattle.reader.proofs.table.note.Reads as reads
-use Rattle.reader.proofs.table.note.Lts as lts
-use Rattle.reader.proofs.table.bucket.Reads as bucket-reads
-use Rattle.reader.proofs.table.put.Reads as put-reads
-use Rattle.reader.proofs.table.same_at.Reads as same-at-reads
-use Rattle.reader.proofs.table.wide.Reads as wide-reads
 
 abbrev Inv-loop : tie.InvT-loop
 Inv-loop table₀ head next rows key place b k₀ table k = (table ≡ table₀) × Seeking table₀ key rows b k × (length key ≡ 10)
@@ -112,9 +106,10 @@ returns c =
     let a = s .args in
     let h : l .k - 1 < a .rows = omega (arith, inside i, l .inv .1 .within) in
     let q : same (keyAt (a .table .now) (l .k - 1)) (a .key) ≡ true = rw (l .inv .0) at (sym (c .before .before .same-at .ensures) ∙ c .before .if1 .taken) in
-    rw (l .inv .0)
-    (links-known (a .table .now) (a .head .now) (a .next .now) (a .rows) (l .k - 1) _ (s .pre .linked),
-    λ rs t₀ d e K T. note-known (a .table .now) (a .key) (a .rows) (a .place) rs t₀ d e K T (l .k - 1) h q)
+    rw (l .inv .0) (
+      links-known (a .table .now) (a .head .now) (a .next .now) (a .rows) (l .k - 1) _ (s .pre .linked),
+      λ rs t₀ d e K T. note-known (a .table .now) (a .key) (a .rows) (a .place) rs t₀ d e K T (l .k - 1) h q,
+    )
 
 mul-wide-2 : tie.Need-mul-wide-2 Inv-loop μ-loop
 mul-wide-2 c = omega (arith, inside (c .before .before .before))
@@ -144,9 +139,10 @@ returns-2 c =
     let s = c .before .before .before .before .before .before .before .before .before in
     let a = s .args in
     let z : l .k ≡ 0 = c .before .loop-test .left in
-    rw (l .inv .0)
-    (s .pre .linked,
-    λ rs t₀ d e K T. note-full (a .table .now) (a .key) (a .rows) (a .place) rs t₀ d e K T (λ r. l .inv .1 .unseen r (omega arith)) (c .if2 .taken))
+    rw (l .inv .0) (
+      s .pre .linked,
+      λ rs t₀ d e K T. note-full (a .table .now) (a .key) (a .rows) (a .place) rs t₀ d e K T (λ r. l .inv .1 .unseen r (omega arith)) (c .if2 .taken),
+    )
 
 mul-put : tie.Need-mul-put Inv-loop μ-loop
 mul-put c = omega (arith, c .before .before .before .before .before .before .before .before .before .before .pre .few)
@@ -207,9 +203,10 @@ returns-3 c =
     let a = s .args in
     let z : l .k ≡ 0 = e .before .loop-test .left in
     let p = c .before .before .before .put .ensures ∙ ap (λ (w : List ℕ). sets w (a .rows * 12) (a .key ++ a .place ∷ 1 ∷ [])) (l .inv .0) in
-    rw p
-    (links-new (a .table .now) (a .head .now) (a .next .now) (a .key) (a .rows) (a .place) (b .bucket .result) (s .pre .linked) (s .pre .heads) (s .pre .nexts) (l .inv .2) (e .if2 .left) (s .pre .room) (b .bucket .ensures .0) (b .bucket .ensures .1),
-    λ rs t₀ d q K T. note-new (a .table .now) (a .key) (a .rows) (a .place) rs t₀ d q K T (λ r. l .inv .1 .unseen r (omega arith)) (e .if2 .left) (s .pre .room))
+    rw p (
+      links-new (a .table .now) (a .head .now) (a .next .now) (a .key) (a .rows) (a .place) (b .bucket .result) (s .pre .linked) (s .pre .heads) (s .pre .nexts) (l .inv .2) (e .if2 .left) (s .pre .room) (b .bucket .ensures .0) (b .bucket .ensures .1),
+      λ rs t₀ d q K T. note-new (a .table .now) (a .key) (a .rows) (a .place) rs t₀ d q K T (λ r. l .inv .1 .unseen r (omega arith)) (e .if2 .left) (s .pre .room),
+    )
 
 pub note-spec : {M : Type 1} → statement M
 note-spec =

@@ -1,8 +1,8 @@
 -- The words of the key passed lie in place; what is left to lay begins after them.
 use native.Mathlib.Omega.{arith}
 use borrow.Author.Needs.{needs}
-use Prim.Native.Nat.{suc, _+_, _-_, _≤_, _<_}
-use mathlib.Core.Path.{_≡_, refl, sym, _∙_}
+use Prim.Native.Nat.{suc, _+_, _-_, _≤_}
+use mathlib.Core.Path.{_≡_, refl, _∙_}
 use mathlib.Core.List.{[], _∷_, _++_}
 use lib.ListN.{length, drop, length-set, drop-of-length-le}
 use lib.Seq.{sets}
@@ -10,8 +10,6 @@ use native.Mathlib.Nat.{add-zero}
 use Rattle.laws.proofs.Memory.{sets-on}
 use Rattle.reader.proofs.table.put.Statement.{statement}
 use Rattle.reader.proofs.table.put.Tie as tie
-use Rattle.reader.proofs.table.put.Reads as reads
-use Rattle.reader.proofs.table.put.Lts as lts
 
 abbrev Inv-loop : tie.InvT-loop
 Inv-loop table₀ at place key i₀ table i = (i ≤ 10) × (length key ≡ 10) × (length table ≡ length table₀) × (sets table₀ at (key ++ place ∷ 1 ∷ []) ≡ sets table (at + i) (drop i key ++ place ∷ 1 ∷ []))

@@ -1,16 +1,14 @@
 -- The words passed are the key's, so those left decide.
 use native.Mathlib.Omega.{arith}
 use borrow.Author.Needs.{needs}
-use Prim.Native.Nat.{_+_, _-_, _≤_, _<_}
+use Prim.Native.Nat.{_-_, _≤_}
 use mathlib.Core.Path.{_≡_, refl, sym, _∙_}
-use lib.ListN.{length, drop, getD}
+use lib.ListN.{length, drop}
 use Rattle.laws.specs.Lists.{same}
 use Rattle.laws.specs.Memory.{part}
 use Rattle.laws.proofs.Memory.{same-on, same-differ, same-done, part-length, part-at}
 use Rattle.reader.proofs.table.same_at.Statement.{statement}
 use Rattle.reader.proofs.table.same_at.Tie as tie
-use Rattle.reader.proofs.table.same_at.Reads as reads
-use Rattle.reader.proofs.table.same_at.Lts as lts
 
 abbrev Inv-loop : tie.InvT-loop
 Inv-loop table at key i₀ i = (i ≤ 10) × (length key ≡ 10) × (length (part at 10 table) ≡ 10) × (same (part at 10 table) key ≡ same (drop i (part at 10 table)) (drop i key))

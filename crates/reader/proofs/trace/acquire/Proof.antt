@@ -1,19 +1,12 @@
 -- Each way out is one law of `Steps`.
 use native.Mathlib.Omega.{arith}
-use Prim.Native.Nat.{ℕ, _+_, _≤_, _<_}
-use mathlib.Core.Path.{_≡_, refl, sym, ap, _∙_}
-use lib.ListN.{length, length-set}
+use mathlib.Core.Path.{sym, _∙_}
+use lib.ListN.{length-set}
 use Rattle.model.specs.Trace.{dependency}
 use Rattle.reader.proofs.Steps.{asked-is, did-again, did-taken, did-deep, did-first, key-is, keyed, did-full, did-noted}
 use borrow.Author.Needs.{needs}
 use Rattle.reader.proofs.trace.acquire.Statement.{statement}
 use Rattle.reader.proofs.trace.acquire.Tie as tie
-use Rattle.reader.proofs.trace.acquire.Reads as reads
-use Rattle.reader.proofs.trace.acquire.Lts as lts
-use Rattle.holds.proofs.Hold.ask.Reads as ask-reads
-use Rattle.holds.proofs.Hold.take.Reads as take-reads
-use Rattle.reader.proofs.table.note.Reads as note-reads
-use Rattle.reader.proofs.trace.key_of.Reads as key-of-reads
 
 ask-requires : tie.Need-ask-requires
 ask-requires c κs = search needs
@@ -21,11 +14,12 @@ ask-requires c κs = search needs
 returns : tie.Need-returns
 returns c =
     let s = c .before .before .before .before .before .before in
-    let a = s .args in
-    (s .pre .0 .linked,
-    λ n st t₀ N T H L.
-    did-again n st (a .p) (a .event) N T (s .pre .3) (a .hold) H t₀ (a .rows) (a .table .now) (a .owner .now) L
-    (sym (asked-is n st (a .p) (a .event) (L .sound) (a .hold) H (c .before .ask .result) (c .before .ask .ensures)) ∙ c .if1 .taken))
+    let a = s .args in (
+      s .pre .0 .linked,
+      λ n st t₀ N T H L.
+          did-again n st (a .p) (a .event) N T (s .pre .3) (a .hold) H t₀ (a .rows) (a .table .now) (a .owner .now) L
+          (sym (asked-is n st (a .p) (a .event) (L .sound) (a .hold) H (c .before .ask .result) (c .before .ask .ensures)) ∙ c .if1 .taken),
+    )
 
 cast-i : tie.Need-cast-i
 cast-i c = search needs
@@ -39,21 +33,23 @@ returns-2 : tie.Need-returns-2
 returns-2 c =
     let q = c .before .before in
     let s = q .before .before .before .before .before .before in
-    let a = s .args in
-    (s .pre .0 .linked,
-    λ n st t₀ N T H L.
-    did-taken n st (a .p) (a .event) N T (s .pre .3) (a .hold) H t₀ (a .rows) (a .table .now) (a .owner .now) L
-    (sym (asked-is n st (a .p) (a .event) (L .sound) (a .hold) H (q .before .ask .result) (q .before .ask .ensures)) ∙ q .if1 .left) (c .if2 .taken))
+    let a = s .args in (
+      s .pre .0 .linked,
+      λ n st t₀ N T H L.
+          did-taken n st (a .p) (a .event) N T (s .pre .3) (a .hold) H t₀ (a .rows) (a .table .now) (a .owner .now) L
+          (sym (asked-is n st (a .p) (a .event) (L .sound) (a .hold) H (q .before .ask .result) (q .before .ask .ensures)) ∙ q .if1 .left) (c .if2 .taken),
+    )
 
 returns-3 : tie.Need-returns-3
 returns-3 c =
     let q = c .before .before .before in
     let s = q .before .before .before .before .before .before in
-    let a = s .args in
-    (s .pre .0 .linked,
-    λ n st t₀ N T H L.
-    did-deep n st (a .p) (a .event) N T (s .pre .3) (a .hold) H t₀ (a .rows) (a .table .now) (a .owner .now) L
-    (sym (asked-is n st (a .p) (a .event) (L .sound) (a .hold) H (q .before .ask .result) (q .before .ask .ensures)) ∙ q .if1 .left) (c .before .if2 .left) (c .if3 .taken))
+    let a = s .args in (
+      s .pre .0 .linked,
+      λ n st t₀ N T H L.
+          did-deep n st (a .p) (a .event) N T (s .pre .3) (a .hold) H t₀ (a .rows) (a .table .now) (a .owner .now) L
+          (sym (asked-is n st (a .p) (a .event) (L .sound) (a .hold) H (q .before .ask .result) (q .before .ask .ensures)) ∙ q .if1 .left) (c .before .if2 .left) (c .if3 .taken),
+    )
 
 add-owner : tie.Need-add-owner
 add-owner c = omega (arith, c .before .before .before .before .before .before .before .before .before .before .pre .2)
@@ -73,11 +69,12 @@ returns-4 : tie.Need-returns-4
 returns-4 c =
     let q = c .before .before .before .before .before in
     let s = q .before .before .before .before .before .before in
-    let a = s .args in
-    (s .pre .0 .linked,
-    λ n st t₀ N T H L.
-    did-first n st (a .p) (a .event) N T (s .pre .3) (a .hold) H t₀ (a .rows) (a .table .now) (a .owner .now) L
-    (sym (asked-is n st (a .p) (a .event) (L .sound) (a .hold) H (q .before .ask .result) (q .before .ask .ensures)) ∙ q .if1 .left) (c .before .before .before .if2 .left) (c .before .before .if3 .left) (c .before .if4 .taken) (c .take .result) (c .take .ensures))
+    let a = s .args in (
+      s .pre .0 .linked,
+      λ n st t₀ N T H L.
+          did-first n st (a .p) (a .event) N T (s .pre .3) (a .hold) H t₀ (a .rows) (a .table .now) (a .owner .now) L
+          (sym (asked-is n st (a .p) (a .event) (L .sound) (a .hold) H (q .before .ask .result) (q .before .ask .ensures)) ∙ q .if1 .left) (c .before .before .before .if2 .left) (c .before .before .if3 .left) (c .before .if4 .taken) (c .take .result) (c .take .ensures),
+    )
 
 key-of-requires : tie.Need-key-of-requires
 key-of-requires c κs = omega (arith, c .before .before .before .before .if3 .left)
@@ -100,17 +97,18 @@ returns-5 c =
     let f = r .before .before .before .before .before in
     let q = f .before .before .before .before in
     let s = q .before .before .before .before .before .before in
-    let a = s .args in
-    (r .note .ensures .0,
-    λ n st t₀ N T H L.
-    let y = sym (asked-is n st (a .p) (a .event) (L .sound) (a .hold) H (q .before .ask .result) (q .before .ask .ensures)) ∙ q .if1 .left in
-    let z = f .before .before .if2 .left in
-    let d = f .before .if3 .left in
-    did-full n st (a .p) (a .event) N T (s .pre .3) (a .hold) H t₀ (a .rows) (a .table .now) (a .owner .now) L y z d (f .if4 .left) (r .note .result .full) (r .note .result .rows) (r .note .last .0)
-    (r .note .ensures .1 (st .rows) t₀ (dependency st (a .event))
-    (r .before .key-of .ensures ∙ key-is n st (a .p) (a .event) N T (s .pre .3) (a .hold) H t₀ (a .rows) (a .table .now) (a .owner .now) L y z d (f .if4 .left))
-    (keyed n st (a .p) (a .event) N T (s .pre .3) (a .hold) H t₀ (a .rows) (a .table .now) (a .owner .now) L y z d (f .if4 .left)) (L .table))
-    (c .if5 .taken))
+    let a = s .args in (
+      r .note .ensures .0,
+      λ n st t₀ N T H L.
+          let y = sym (asked-is n st (a .p) (a .event) (L .sound) (a .hold) H (q .before .ask .result) (q .before .ask .ensures)) ∙ q .if1 .left in
+          let z = f .before .before .if2 .left in
+          let d = f .before .if3 .left in
+          did-full n st (a .p) (a .event) N T (s .pre .3) (a .hold) H t₀ (a .rows) (a .table .now) (a .owner .now) L y z d (f .if4 .left) (r .note .result .full) (r .note .result .rows) (r .note .last .0)
+          (r .note .ensures .1 (st .rows) t₀ (dependency st (a .event))
+          (r .before .key-of .ensures ∙ key-is n st (a .p) (a .event) N T (s .pre .3) (a .hold) H t₀ (a .rows) (a .table .now) (a .owner .now) L y z d (f .if4 .left))
+          (keyed n st (a .p) (a .event) N T (s .pre .3) (a .hold) H t₀ (a .rows) (a .table .now) (a .owner .now) L y z d (f .if4 .left)) (L .table))
+          (c .if5 .taken),
+    )
 
 add-owner-2 : tie.Need-add-owner-2
 add-owner-2 c = omega (arith, c .before .before .before .before .before .before .before .before .before .before .before .before .before .before .before .before .before .before .before .before .before .before .pre .2)
@@ -141,17 +139,18 @@ returns-6 c =
     let f = r .before .before .before .before .before in
     let q = f .before .before .before .before in
     let s = q .before .before .before .before .before .before in
-    let a = s .args in
-    (r .note .ensures .0,
-    λ n st t₀ N T H L.
-    let y = sym (asked-is n st (a .p) (a .event) (L .sound) (a .hold) H (q .before .ask .result) (q .before .ask .ensures)) ∙ q .if1 .left in
-    let z = f .before .before .if2 .left in
-    let d = f .before .if3 .left in
-    did-noted n st (a .p) (a .event) N T (s .pre .3) (a .hold) H t₀ (a .rows) (a .table .now) (a .owner .now) L y z d (f .if4 .left) (r .note .result .full) (r .note .result .rows) (r .note .last .0)
-    (r .note .ensures .1 (st .rows) t₀ (dependency st (a .event))
-    (r .before .key-of .ensures ∙ key-is n st (a .p) (a .event) N T (s .pre .3) (a .hold) H t₀ (a .rows) (a .table .now) (a .owner .now) L y z d (f .if4 .left))
-    (keyed n st (a .p) (a .event) N T (s .pre .3) (a .hold) H t₀ (a .rows) (a .table .now) (a .owner .now) L y z d (f .if4 .left)) (L .table))
-    (c .before .if5 .left) (c .take2 .result) (c .take2 .ensures))
+    let a = s .args in (
+      r .note .ensures .0,
+      λ n st t₀ N T H L.
+          let y = sym (asked-is n st (a .p) (a .event) (L .sound) (a .hold) H (q .before .ask .result) (q .before .ask .ensures)) ∙ q .if1 .left in
+          let z = f .before .before .if2 .left in
+          let d = f .before .if3 .left in
+          did-noted n st (a .p) (a .event) N T (s .pre .3) (a .hold) H t₀ (a .rows) (a .table .now) (a .owner .now) L y z d (f .if4 .left) (r .note .result .full) (r .note .result .rows) (r .note .last .0)
+          (r .note .ensures .1 (st .rows) t₀ (dependency st (a .event))
+          (r .before .key-of .ensures ∙ key-is n st (a .p) (a .event) N T (s .pre .3) (a .hold) H t₀ (a .rows) (a .table .now) (a .owner .now) L y z d (f .if4 .left))
+          (keyed n st (a .p) (a .event) N T (s .pre .3) (a .hold) H t₀ (a .rows) (a .table .now) (a .owner .now) L y z d (f .if4 .left)) (L .table))
+          (c .before .if5 .left) (c .take2 .result) (c .take2 .ensures),
+    )
 
 pub acquire-spec : {M : Type 1} → statement M
 acquire-spec =

@@ -7,8 +7,6 @@ use Rattle.reader.proofs.Keys.{seven}
 use borrow.Author.Needs.{needs}
 use Rattle.reader.proofs.trace.key_of.Statement.{statement}
 use Rattle.reader.proofs.trace.key_of.Tie as tie
-use Rattle.reader.proofs.trace.key_of.Reads as reads
-use Rattle.reader.proofs.trace.key_of.Lts as lts
 
 cast-t7 : tie.Need-cast-t7
 cast-t7 c = search needs

@@ -1,16 +1,11 @@
 -- Each way out is one law of `Steps`.
 use native.Mathlib.Omega.{arith}
-use Prim.Native.Nat.{ℕ, _+_, _≤_, _<_}
-use mathlib.Core.Path.{_≡_, refl, sym, ap, _∙_}
-use lib.ListN.{length, length-set}
+use mathlib.Core.Path.{refl, sym, _∙_}
+use lib.ListN.{length-set}
 use Rattle.reader.proofs.Steps.{asked-is, did-released, did-not-held}
 use borrow.Author.Needs.{needs}
 use Rattle.reader.proofs.trace.release.Statement.{statement}
 use Rattle.reader.proofs.trace.release.Tie as tie
-use Rattle.reader.proofs.trace.release.Reads as reads
-use Rattle.reader.proofs.trace.release.Lts as lts
-use Rattle.holds.proofs.Hold.ask.Reads as ask-reads
-use Rattle.holds.proofs.Hold.release.Reads as release-reads
 
 ask-requires : tie.Need-ask-requires
 ask-requires c κs = search needs
@@ -33,20 +28,22 @@ returns : tie.Need-returns
 returns c =
     let q = c .before .before in
     let s = q .before .before in
-    let a = s .args in
-    (refl,
-    λ n st p t₀ ws N H L.
-    did-released n st p (a .event) N (s .pre .1) (s .pre .2) (a .hold) H t₀ (a .rows) ws (a .owner .now) L
-    (sym (asked-is n st p (a .event) (L .sound) (a .hold) H (q .ask .result) (q .ask .ensures)) ∙ c .before .if1 .taken) (c .release .result) (c .release .ensures))
+    let a = s .args in (
+      refl,
+      λ n st p t₀ ws N H L.
+          did-released n st p (a .event) N (s .pre .1) (s .pre .2) (a .hold) H t₀ (a .rows) ws (a .owner .now) L
+          (sym (asked-is n st p (a .event) (L .sound) (a .hold) H (q .ask .result) (q .ask .ensures)) ∙ c .before .if1 .taken) (c .release .result) (c .release .ensures),
+    )
 
 returns-2 : tie.Need-returns-2
 returns-2 c =
     let s = c .before .before .before in
-    let a = s .args in
-    (refl,
-    λ n st p t₀ ws N H L.
-    did-not-held n st p (a .event) N (s .pre .1) (s .pre .2) (a .hold) H t₀ (a .rows) ws (a .owner .now) L
-    (sym (asked-is n st p (a .event) (L .sound) (a .hold) H (c .before .ask .result) (c .before .ask .ensures)) ∙ c .if1 .left))
+    let a = s .args in (
+      refl,
+      λ n st p t₀ ws N H L.
+          did-not-held n st p (a .event) N (s .pre .1) (s .pre .2) (a .hold) H t₀ (a .rows) ws (a .owner .now) L
+          (sym (asked-is n st p (a .event) (L .sound) (a .hold) H (c .before .ask .result) (c .before .ask .ensures)) ∙ c .if1 .left),
+    )
 
 pub release-spec : {M : Type 1} → statement M
 release-spec =

@@ -1,21 +1,14 @@
 -- The events passed are in the state; the laws of `Running` carry it from one to the next.
 use native.Mathlib.Omega.{arith}
 use borrow.Author.Needs.{needs}
-use Prim.Native.Nat.{ℕ, _+_, _*_, _-_, _%_, _≤_, _<_}
-use mathlib.Core.Path.{_≡_, refl, sym, ap, _∙_}
+use Prim.Native.Nat.{_-_, _%_, _<_}
+use mathlib.Core.Path.{_≡_, sym, _∙_}
 use mathlib.Core.List.{[]}
-use lib.ListN.{length, getD}
-use Rattle.holds.specs.declared.Hold.{Hold}
-use Rattle.holds.specs.Hold.{laid}
+use lib.ListN.{length}
 use Rattle.reader.specs.Working.{Did}
 use Rattle.reader.proofs.Running.{Runs, runs-start, runs-ready, runs-stop, runs-on, runs-end}
 use Rattle.reader.proofs.trace.run.Statement.{statement}
 use Rattle.reader.proofs.trace.run.Tie as tie
-use Rattle.reader.proofs.trace.run.Reads as reads
-use Rattle.reader.proofs.trace.run.Lts as lts
-use Rattle.holds.proofs.Hold.none.Reads as none-reads
-use Rattle.reader.proofs.image.event_at.Reads as event-at-reads
-use Rattle.reader.proofs.trace.step.Reads as step-reads
 
 abbrev Inv-loop : tie.InvT-loop
 Inv-loop events limits table₀ holds₀ owner₀ head₀ next₀ rows₀ p₀ at₀ table holds owner head next rows p at = Runs limits events table₀ table holds owner head next rows p at

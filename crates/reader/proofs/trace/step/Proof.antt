@@ -1,18 +1,10 @@
 -- The kind decides; each way out is one law of `Steps`.
 use native.Mathlib.Omega.{arith}
-use Prim.Native.Nat.{_≤_, _<_}
-use mathlib.Core.Path.{_≡_, refl, sym, _∙_}
 use Rattle.model.proofs.Passing.{acquire-known, release-known}
-use Rattle.reader.specs.Working.{Named}
 use Rattle.reader.proofs.Steps.{named, did-unnamed, did-unknown}
 use borrow.Author.Needs.{needs}
 use Rattle.reader.proofs.trace.step.Statement.{statement}
 use Rattle.reader.proofs.trace.step.Tie as tie
-use Rattle.reader.proofs.trace.step.Reads as reads
-use Rattle.reader.proofs.trace.step.Lts as lts
-use Rattle.reader.proofs.trace.acquire.Reads as acquire-reads
-use Rattle.reader.proofs.trace.release.Reads as release-reads
-use Rattle.reader.proofs.trace.unnamed.Reads as unnamed-reads
 
 unnamed-requires : tie.Need-unnamed-requires
 unnamed-requires c κs = search needs
@@ -21,11 +13,12 @@ returns : tie.Need-returns
 returns c =
     let u = c .before .before in
     let s = u .before .before .before .before .before in
-    let a = s .args in
-    (s .pre .0 .linked,
-    λ st t₀ H L.
-    did-unnamed (a .limits) (a .event) (u .unnamed .result) (u .unnamed .ensures) st (a .p) t₀ (a .hold) (a .rows) (a .table .now) (a .owner .now) L
-    (acquire-known (a .limits) st (a .event) (c .before .match .keys1)) (c .if1 .taken))
+    let a = s .args in (
+      s .pre .0 .linked,
+      λ st t₀ H L.
+          did-unnamed (a .limits) (a .event) (u .unnamed .result) (u .unnamed .ensures) st (a .p) t₀ (a .hold) (a .rows) (a .table .now) (a .owner .now) L
+          (acquire-known (a .limits) st (a .event) (c .before .match .keys1)) (c .if1 .taken),
+    )
 
 acquire-requires : tie.Need-acquire-requires
 acquire-requires c κs =
@@ -40,11 +33,12 @@ returns-2 : tie.Need-returns-2
 returns-2 c =
     let u = c .before .before in
     let s = u .before .before .before .before .before in
-    let a = s .args in
-    (s .pre .0 .linked,
-    λ st t₀ H L.
-    did-unnamed (a .limits) (a .event) (u .unnamed .result) (u .unnamed .ensures) st (a .p) t₀ (a .hold) (a .rows) (a .table .now) (a .owner .now) L
-    (release-known (a .limits) st (a .event) (c .before .match .keys2)) (c .if2 .taken))
+    let a = s .args in (
+      s .pre .0 .linked,
+      λ st t₀ H L.
+          did-unnamed (a .limits) (a .event) (u .unnamed .result) (u .unnamed .ensures) st (a .p) t₀ (a .hold) (a .rows) (a .table .now) (a .owner .now) L
+          (release-known (a .limits) st (a .event) (c .before .match .keys2)) (c .if2 .taken),
+    )
 
 release-requires : tie.Need-release-requires
 release-requires c κs =
@@ -94,10 +88,11 @@ returns-5 : tie.Need-returns-5
 returns-5 c =
     let u = c .before in
     let s = u .before .before .before .before .before in
-    let a = s .args in
-    (s .pre .0 .linked,
-    λ st t₀ H L.
-    did-unknown (a .limits) (a .event) (u .unnamed .result) (u .unnamed .ensures) st (a .p) t₀ (a .hold) (a .rows) (a .table .now) (a .owner .now) L (c .match .rest .0 .1) (c .match .rest .1))
+    let a = s .args in (
+      s .pre .0 .linked,
+      λ st t₀ H L.
+          did-unknown (a .limits) (a .event) (u .unnamed .result) (u .unnamed .ensures) st (a .p) t₀ (a .hold) (a .rows) (a .table .now) (a .owner .now) L (c .match .rest .0 .1) (c .match .rest .1),
+    )
 
 pub step-spec : {M : Type 1} → statement M
 step-spec =

@@ -3,8 +3,6 @@ use Rattle.reader.specs.Working.{unnamedOf}
 use borrow.Author.Needs.{needs}
 use Rattle.reader.proofs.trace.unnamed.Statement.{statement}
 use Rattle.reader.proofs.trace.unnamed.Tie as tie
-use Rattle.reader.proofs.trace.unnamed.Reads as reads
-use Rattle.reader.proofs.trace.unnamed.Lts as lts
 
 cast-if1 : tie.Need-cast-if1
 cast-if1 c = search needs
