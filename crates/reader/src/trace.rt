@@ -87,11 +87,12 @@ fn acquire(
             rows,
         };
     }
+    let taken = hold.take(m);
     if n == 0 {
         owner[i] = t + 1;
         return Stepped {
             number: 0,
-            hold: hold.take(m),
+            hold: taken,
             rows,
         };
     }
@@ -106,7 +107,7 @@ fn acquire(
     owner[i] = t + 1;
     Stepped {
         number: 0,
-        hold: hold.take(m),
+        hold: taken,
         rows: noted.rows,
     }
 }
