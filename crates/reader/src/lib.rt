@@ -27,8 +27,8 @@ pub fn notes(image: &[u8]) -> &[u8]
     if refusal != 0 {
         return &image[0..0];
     }
-    let offset = image::long(image, 12);
-    &image[20..offset]
+    let end = image::long(image, 12);
+    &image[20..end]
 }
 
 fn refused(number: u16) -> Reading
