@@ -3,14 +3,18 @@
 --     locks-nothing
 --     locks-taken-new, locks-taken-again      the set after an acquire of a lock that is not held, and of one that is
 --     locks-released                     the set after a release
+--     taken-swap                         the order of taking is forgotten
 use Prim.Native.Nat.{ℕ}
-use mathlib.Core.Path.{_≡_, refl, ap}
+use mathlib.Core.Path.{_≡_, refl, sym, ap, _∙_}
+use mathlib.Core.Logic.{⊎-elim}
 use mathlib.Core.Bool.{true, false}
 use mathlib.Core.List.{List, []}
 use Rattle.laws.specs.Tests.{Tells}
 use Rattle.laws.specs.Lists.{In}
-use Rattle.laws.specs.Sets.{insert, remove}
+use Rattle.laws.specs.Sets.{Rising, insert, remove}
+use Rattle.laws.proofs.Tests.{never, fails}
 use Rattle.laws.proofs.Lists.{tells-in}
+use Rattle.laws.proofs.Sets.{insert-in, insert-swap}
 use Rattle.model.specs.Holds.{Holding, nothing, locks, holds, taken, released}
 
 pub tells-holds : (m : ℕ) (h : Holding) → Tells (holds m h) (In m (locks h))
@@ -27,3 +31,13 @@ locks-taken-again m h e = rw e
 pub locks-released : (m : ℕ) (h : Holding) → locks (released m h) ≡ remove m (locks h)
 unfolding released
 locks-released m h = refl
+
+pub taken-swap : (a b : ℕ) (h : Holding) → Rising (locks h) → holds a h ≡ false → holds b h ≡ false → (a ≡ b → ⊥) → locks (taken a (taken b h)) ≡ locks (taken b (taken a h))
+taken-swap a b h r p q n =
+    both a b p q n ∙ insert-swap a b (locks h) r (λ i. never (tells-holds a h .1 i) p) (λ i. never (tells-holds b h .1 i) q) n ∙ sym (both b a q p (λ e. n (sym e)))
+  where
+    both : (c d : ℕ) → holds c h ≡ false → holds d h ≡ false → (c ≡ d → ⊥) → locks (taken c (taken d h)) ≡ insert c (insert d (locks h))
+    both c d p q n =
+        let e = locks-taken-new d h q in
+        let f : holds c (taken d h) ≡ false = fails (tells-holds c (taken d h)) (λ i. ⊎-elim n (λ j. never (tells-holds c h .1 j) p) (insert-in d (locks h) c (rw e at i))) in
+        locks-taken-new c (taken d h) f ∙ ap (insert c) e

@@ -3,8 +3,10 @@
 --     notes-refused, -passed    the notes call
 --     image-refused, -passed    reading, where enough words are lent
 --     small-refused             and where too few are
+--     read-well-formed          what is read is a well-formed table
 use Prim.Native.Nat.{ℕ, _+_, _*_, _≤_, _<_}
 use native.Mathlib.Omega.{arith}
+use native.Mathlib.Decide.{ℕ-discrete, decLt}
 use mathlib.Core.Path.{_≡_, refl, sym, ap, _∙_}
 use mathlib.Core.Bool.{true, false, not}
 use mathlib.Core.List.{List, []}
@@ -15,13 +17,13 @@ use Rattle.laws.specs.Lists.{same}
 use Rattle.laws.specs.Memory.{part}
 use Rattle.laws.proofs.Tests.{tells-same, tells-most, tells-and}
 use Rattle.model.specs.Refusals.{Verdict, passes, refuses, number, Refusal, Short, Long, Mark, Counts, Places, Small}
-use Rattle.model.specs.Rows.{widest}
+use Rattle.model.specs.Rows.{widest, deps, WellFormed}
 use Rattle.model.specs.Trace.{Read, start, trace}
 use Rattle.model.specs.Image.{mark, headerSize, eventSize, threads, locks, events, offset, whole, countsFit, placesFit, header, limitsOf, notesOf, eventsOf}
 use Rattle.model.specs.Table.{tableRoom}
 use Rattle.model.specs.Reads.{notesFound, notesPlace, turnedAway, readImage, readInto}
 use Rattle.model.proofs.Refusals.{number-passes, numberOf-some, if-passes}
-use Rattle.model.proofs.Traces.{Way, on, stop, way}
+use Rattle.model.proofs.Traces.{Way, on, stop, way, trace-well-formed}
 
 pub record Accepted (b : List ℕ) : Type 0 where
   pub long : headerSize ≤ length b
@@ -90,3 +92,17 @@ module _ (b : List ℕ) where
     pub image-passed : number (header b) ≡ 0 → readInto n b ≡ trace (limitsOf b) (eventsOf b)
     unfolding readInto readImage
     image-passed z = rw (le-ltb n tableRoom h, number-passes (header b) z, readImage)
+
+-- whatever is read, also up to a refusal, is a well-formed table
+none-well-formed : WellFormed (deps (start .rows))
+none-well-formed = record { few = omega arith; fair = λ d i. absurd i; apart = tt }
+
+pub read-well-formed : (n : ℕ) (b : List ℕ) → WellFormed (deps (readInto n b .state .rows))
+read-well-formed n b = go (decLt n tableRoom) (ℕ-discrete (number (header b)) 0)
+  where
+    go : Dec (n < tableRoom) → Dec (number (header b) ≡ 0) → WellFormed (deps (readInto n b .state .rows))
+    go (yes l) d = rw (small-refused b n l) none-well-formed
+    go (no l) (yes z) =
+        let A = accepted b (number-passes (header b) z) in
+        rw (image-passed b n (omega arith) z) (trace-well-formed (limitsOf b) (eventsOf b) (A .fewThreads) (A .fewLocks))
+    go (no l) (no z) = rw (image-refused b n (omega arith) z .2) none-well-formed

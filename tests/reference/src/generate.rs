@@ -3,6 +3,9 @@
 use crate::cases::Case;
 use crate::image::{acquire, build, release, Event};
 
+/// `read_cases` takes no longer image.
+const LONGEST: usize = 65_600;
+
 /// xorshift64*: the same seed gives the same cases everywhere.
 struct Dice(u64);
 
@@ -29,17 +32,18 @@ impl Dice {
 
 /// Events of threads that take free locks and give theirs back, now and then a wrong one.
 fn events(dice: &mut Dice, threads: usize, locks: usize, count: usize, wrong: usize) -> Vec<Event> {
+    let eager = 5 + dice.below(5);
     let mut held: Vec<Vec<u16>> = vec![vec![]; threads];
     let mut events = vec![];
     for _ in 0..count {
         let t = dice.below(threads);
         let m = dice.below(locks) as u16;
-        let mut event = if held[t].is_empty() || dice.below(10) < 6 { acquire(t as u8, m) } else { release(t as u8, dice.pick(&held[t])) };
+        let mut event = if held[t].is_empty() || dice.below(10) < eager { acquire(t as u8, m) } else { release(t as u8, dice.pick(&held[t])) };
         if wrong > 0 && dice.one_in(wrong) {
             event = Event { kind: dice.pick(&[0, 1, 1, 1, 2, 2, 3, 255]), thread: dice.below(threads + 2) as u8, lock: dice.below(locks + 2) as u16, site: 9 };
         } else if event.kind == 1 && held.iter().enumerate().any(|(u, h)| u != t && h.contains(&m)) {
             continue;
-        } else if event.kind == 1 && held[t].len() == 8 && !held[t].contains(&m) {
+        } else if event.kind == 1 && held[t].len() == 8 && !held[t].contains(&m) && (wrong == 0 || dice.one_in(2)) {
             continue;
         }
         event.site = dice.below(65536) as u16;
@@ -84,6 +88,16 @@ fn damage(dice: &mut Dice, image: &mut Vec<u8>) {
     }
 }
 
+/// How many bytes of notes: mostly none, at times so many that the image is as long as it may be, or longer.
+fn notes(dice: &mut Dice) -> usize {
+    match dice.below(300) {
+        0 => 65516 - dice.below(30),
+        1 => 65517 + dice.below(30),
+        2..=100 => dice.below(50),
+        _ => 0,
+    }
+}
+
 fn one(dice: &mut Dice) -> Case {
     let sort = dice.below(10);
     let threads = dice.pick(&[1, 2, 2, 3, 4, 8, 32]);
@@ -93,7 +107,7 @@ fn one(dice: &mut Dice) -> Case {
         1..=3 => dice.below(600),
         _ => dice.below(40),
     };
-    let notes: Vec<u8> = (0..if dice.one_in(3) { dice.below(50) } else { 0 }).map(|_| dice.below(256) as u8).collect();
+    let notes: Vec<u8> = (0..notes(dice)).map(|_| dice.below(256) as u8).collect();
     let wrong = if sort < 4 { 0 } else { 4 + dice.below(60) };
     let mut image = build(threads as u16, locks as u16, &notes, &events(dice, threads, locks, count, wrong));
     if sort == 9 {
@@ -104,6 +118,7 @@ fn one(dice: &mut Dice) -> Case {
     } else if sort > 6 {
         damage(dice, &mut image);
     }
+    image.truncate(LONGEST);
     let words = if dice.one_in(12) { dice.pick(&[0, 1, 12, 12287]) } else { dice.pick(&[12288, 12288, 12289, 13000]) };
     Case { image, words, brief: true, ..Case::default() }
 }
