@@ -1,5 +1,6 @@
 -- How what one thread holds lies in eight places, and what each method makes of the places, whatever stands there.
---     laid h           what is held, as it lies: the locks rising, the other places unused
+--     inPlaces xs      xs in the first places, the other places unused
+--     laid h           what is held, as it lies
 --     inUse s          what stands in the used places
 --     askedOf s m, takenOf s m, releasedOf s m      what the methods answer
 -- `proofs/Laid.antt` shows that each does to what is laid what the meaning of the trace says.

@@ -21,7 +21,7 @@ use Rattle.model.specs.Rows.{widest, deps, WellFormed}
 use Rattle.model.specs.Trace.{Read, start, trace}
 use Rattle.model.specs.Image.{mark, headerSize, eventSize, threads, locks, events, offset, whole, countsFit, placesFit, header, limitsOf, notesOf, eventsOf}
 use Rattle.model.specs.Table.{tableRoom}
-use Rattle.model.specs.Reads.{notesFound, notesPlace, turnedAway, readImage, readInto}
+use Rattle.model.specs.Reading.{notesFound, notesPlace, turnedAway, readImage, readInto}
 use Rattle.model.proofs.Refusals.{number-passes, numberOf-some, if-passes}
 use Rattle.model.proofs.Traces.{Way, on, stop, way, trace-well-formed}
 

@@ -4,4 +4,4 @@ pub mod Rows
 pub mod Trace
 pub mod Image
 pub mod Table
-pub mod Reads
+pub mod Reading

@@ -1,8 +1,11 @@
 -- Dependencies and rows (document 01, "From events to rows"), and well-formed tables ("Well formed").
 --     Dependency       the triple (t, m, H): thread t wanted lock m and held the set H
 --     Row              a dependency, the position of its first arising, and how often it arose
---     sameDep d e      the test: two dependencies are one
+--     deps rs          the dependencies of rows
+--     sameDep d e      the test: two dependencies are one; isOf d r: row r is d's
 --     known d rs       the test: d has a row
+--     newRow d p       the row of d where it arises for the first time, at position p
+--     again r          row r with one occurrence more; counted d r: where it is d's
 --     arose d p rs     the rows after d arises at position p: a known one has one occurrence more, a new one comes last
 --     placed r         a row in all but its occurrences
 --     mostRows         a table has at most so many rows
@@ -43,14 +46,12 @@ isOf d r = sameDep d (r .what)
 abbrev pub known : Dependency → List Row → Bool
 known d rs = any (isOf d) rs
 
--- d for the first time, at position p
 abbrev pub newRow : Dependency → ℕ → Row
 newRow d p = record { what = d; first = p; times = 1 }
 
 abbrev pub again : Row → Row
 again r = record { what = r .what; first = r .first; times = r .times + 1 }
 
--- one occurrence more, where the row is d's
 abbrev pub counted : Dependency → Row → Row
 counted d r = if isOf d r then again r else r
 

@@ -1,9 +1,12 @@
 -- What a recorded trace means: a fold of its events over what the threads hold and the rows so far (document 01, "From events to rows").
 --     acquires, releases     the tests of an event's kind (`Event` of src/lib.rt: kind, thread, lock, and a site that no rule reads)
 --     State            what each thread holds, and the rows so far; `start`: before event 0
+--     holdsIt s e      the test: the event's thread holds the event's lock
+--     elsewhere n s e  the test: another thread holds it
 --     dependency s e   (t, m, H) for an acquire of m by t, with H what t holds
 --     arises s e       the test: it arises, since m is not held already and H is not empty
 --     refusal n s e    the verdict on event e in state s: tests 6 to 12 in order
+--     acquired s p e, gaveUp s e     the state after an acquire, and after a release
 --     after s p e      the state after event e at position p, where it passes
 --     Read             how far events were read: the verdict, its place, and the state reached
 --     reads n s p es   the events es from state s and position p on. The first that is refused ends it, in the state before that event
@@ -34,11 +37,9 @@ pub record State : Type 0 where
 abbrev pub start : State
 start = record { held = λ t. nothing; rows = [] }
 
--- the event's thread holds the event's lock
 abbrev pub holdsIt : State → Event → Bool
 holdsIt s e = holds (e .lock) (s .held (e .thread))
 
--- another thread holds the event's lock
 abbrev pub elsewhere : Limits → State → Event → Bool
 elsewhere n s e = any (λ u. not (eqb u (e .thread)) && holds (e .lock) (s .held u)) (below (n .threads))
 
@@ -59,7 +60,6 @@ refusal n s e =
     Full if acquires e && (arises s e && fullFor (dependency s e) (s .rows)) else
     passes
 
--- the state after an acquire, and after a release
 abbrev pub acquired : State → ℕ → Event → State
 acquired s p e =
     record {

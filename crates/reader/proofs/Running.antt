@@ -19,7 +19,7 @@ use Rattle.model.specs.declared.Reading.{Reading}
 use Rattle.model.specs.Refusals.{passes, refuses, number, Refusal}
 use Rattle.model.specs.Holds.{nothing, locks}
 use Rattle.model.specs.Image.{eventSize, events, offset, limitsOf, eventOf, eventsFrom, eventsOf}
-use Rattle.model.specs.Reads.{Outcome, told}
+use Rattle.model.specs.Reading.{Outcome, outcome, told}
 use Rattle.model.specs.Rows.{widest, mostRows}
 use Rattle.model.specs.Table.{rowSize, tableWords, tableRoom}
 use Rattle.model.specs.Trace.{State, start, refusal, after, Read, reads, trace}
@@ -30,7 +30,6 @@ use Rattle.model.proofs.Sound.{Sound, sound-start, sound-after}
 use Rattle.model.proofs.Traces.{Way, on, stop, way, reads-end, reads-on, reads-stop}
 use Rattle.holds.specs.declared.Hold.{Hold}
 use Rattle.holds.specs.Hold.{laid}
-use Rattle.reader.specs.Public.{outcome}
 use Rattle.reader.specs.Working.{Linked, Ready, Tabled, Owned, Lies, stepped, Did}
 use Rattle.reader.proofs.Events.{events-more, events-none}
 use Rattle.reader.proofs.Index.{linked-start}

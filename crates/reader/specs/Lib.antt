@@ -1,2 +1,1 @@
-pub mod Public
 pub mod Working

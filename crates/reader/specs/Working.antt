@@ -1,6 +1,7 @@
 -- How the working memory of reading stands for the meaning of the trace. The private functions alone speak of it; no public contract does.
+--     keySize              how many words a key has
 --     keyAt ws r           the words of row r by which its dependency is told apart
---     bucketOf k           the bucket of a key
+--     bucketOf k           the bucket of a key; inBucket ws b r: the test that row r is in bucket b
 --     lastBelow f n        one more than the last number below n that passes f, or 0 where there is none
 --     Linked ws n head next    the index of n rows: the last row of each bucket, and for each row the one before it in its bucket
 --     Ready rows ws head next  what the code relies on, whatever the rows are: sizes, and sums that do not wrap
@@ -11,6 +12,8 @@
 --     Lies n s p ..        the state s, which p events have reached, lies in the working memory
 --     stepped n s p e      the state after event e, or the same one where it is refused
 --     Did n s p e ..       what a step answers, and what it leaves
+--     unnamedOf n e        7 for a thread past the limits, then 8 for a lock, otherwise 0
+--     nothingRead k        reading's answer with number k where no event was looked at
 use Prim.Native.Nat.{ℕ, zero, suc, _+_, _*_, _%_, _≤_, _<_}
 use mathlib.Core.Path.{_≡_}
 use mathlib.Core.Bool.{Bool}
@@ -22,6 +25,7 @@ use Rattle.laws.specs.Lists.{In, Pairwise}
 use Rattle.laws.specs.Memory.{part, over}
 use Rattle.model.specs.declared.Event.{Event}
 use Rattle.model.specs.declared.Limits.{Limits}
+use Rattle.model.specs.declared.Reading.{Reading}
 use Rattle.model.specs.Refusals.{Verdict, passes, refuses, number}
 use Rattle.model.specs.Holds.{Holding, holds}
 use Rattle.model.specs.Rows.{mostRows, Dependency, Row, deps}
@@ -99,6 +103,8 @@ pub record Did (n : Limits) (s : State) (p : ℕ) (e : Event) (t₀ : List ℕ) 
   pub table : Tabled (stepped n s p e .rows) t₀ rows ws
   pub owned : Owned (stepped n s p e .held) owner
 
--- 7 for a thread past the limits, then 8 for a lock, otherwise 0
 unfoldable pub unnamedOf : Limits → Event → ℕ
 unnamedOf n e = if leb (n .threads) (e .thread) then 7 else if leb (n .locks) (e .lock) then 8 else 0
+
+abbrev pub nothingRead : ℕ → Reading
+nothingRead k = record { number = k; place = 0; rows = 0 }

@@ -5,7 +5,7 @@ ghost use lib.ListN.{length, drop};
 ghost use Rattle.laws.specs.Lists.{same};
 ghost use Rattle.laws.specs.Memory.{part, field};
 ghost use Rattle.model.specs.Image.{headerSize, eventSize, mark, countsFit, placesFit, eventOf};
-ghost use Rattle.model.specs.Reads.{headerNumber};
+ghost use Rattle.model.specs.Reading.{headerNumber};
 use model::Event;
 
 // What an image begins with.

@@ -3,8 +3,8 @@ ghost use mathlib.Core.Path.{_≡_};
 ghost use Prim.Native.Nat.{_+_};
 ghost use lib.ListN.{length};
 ghost use denote.Ref.{ptr};
-ghost use Rattle.model.specs.Reads.{headerNumber, notesFound, notesPlace, reading};
-ghost use Rattle.reader.specs.Public.{outcome, nothingRead};
+ghost use Rattle.model.specs.Reading.{headerNumber, notesFound, notesPlace, outcome, reading};
+ghost use Rattle.reader.specs.Working.{nothingRead};
 use model::Limits;
 use model::Reading;
 

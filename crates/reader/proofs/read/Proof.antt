@@ -7,9 +7,9 @@ use Rattle.model.proofs.Refusals.{number-passes}
 use Rattle.model.proofs.Image.{Accepted, accepted, small-refused, image-refused, image-passed}
 use Rattle.model.specs.declared.Limits.{Limits}
 use Rattle.model.specs.Image.{limitsOf}
-use Rattle.model.specs.Reads.{told}
+use Rattle.model.specs.Reading.{outcome, told}
 use Rattle.model.specs.Trace.{Read}
-use Rattle.reader.specs.Public.{outcome, nothingRead}
+use Rattle.reader.specs.Working.{nothingRead}
 use Rattle.reader.proofs.Running.{rest-length, image-told}
 use borrow.Author.Needs.{needs}
 use Rattle.reader.proofs.read.Statement.{statement}

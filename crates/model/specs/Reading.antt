@@ -4,7 +4,9 @@
 --     notesPlace b      and where in the image they start
 --     readImage b       reading: the header's checks, then the trace
 --     readInto n b      reading with n words lent: too few are refused before all else
---     Outcome           what reading answers, and what the lent table holds afterwards
+--     turnedAway r      refused with r before the first event
+--     Outcome           what reading answers, and what the lent table holds afterwards; outcome a t: the answer a, and t in the table
+--     told r t          the outcome of reading as r says, with t in the table before
 --     reading b t       the outcome for the image b and the lent table t: its rows' words over t, and nothing else is written
 use Prim.Native.Nat.{ℕ}
 use mathlib.Core.List.{List, []}
@@ -27,7 +29,6 @@ notesFound b = elim (header b) [ passes ↦ notesOf b | refuses r ↦ [] ]
 unfoldable pub notesPlace : List ℕ → ℕ
 notesPlace b = elim (header b) [ passes ↦ headerSize | refuses r ↦ 0 ]
 
--- refused before the first event
 abbrev pub turnedAway : Refusal → Read
 turnedAway r = record { verdict = refuses r; place = 0; state = start }
 
@@ -41,13 +42,14 @@ pub record Outcome : Type 0 where
   pub answer : Reading
   pub table : List ℕ
 
--- what the way an image was read answers, and leaves of the table t
+abbrev pub outcome : Reading → List ℕ → Outcome
+outcome a t = record { answer = a; table = t }
+
 abbrev pub told : Read → List ℕ → Outcome
 told r t =
-    record {
-      answer = record { number = number (r .verdict); place = r .place; rows = length (r .state .rows) };
-      table = over (tableWords (r .state .rows)) t;
-    }
+    outcome
+    (record { number = number (r .verdict); place = r .place; rows = length (r .state .rows) })
+    (over (tableWords (r .state .rows)) t)
 
 abbrev pub reading : List ℕ → List ℕ → Outcome
 reading b t = told (readInto (length t) b) t
