@@ -1,29 +1,19 @@
--- What is so of an image whose header passes, and what the calls on an image come to by the number of its header.
---     accepted                  the facts that checks 1 to 5 leave
---     notes-refused, -passed    the notes call
---     image-refused, -passed    reading, where enough words are lent
---     small-refused             and where too few are
---     read-well-formed          what is read is a well-formed table
-use Prim.Native.Nat.{ℕ, _+_, _*_, _≤_, _<_}
-use native.Mathlib.Omega.{arith}
-use native.Mathlib.Decide.{ℕ-discrete, decLt}
-use mathlib.Core.Path.{_≡_, refl, sym, ap, _∙_}
+-- What is so of an image whose header passes.
+--     accepted     the facts that checks 1 to 5 leave
+use Prim.Native.Nat.{ℕ, _+_, _*_, _≤_}
+use mathlib.Core.Path.{_≡_, _∙_}
 use mathlib.Core.Bool.{true, false, not}
-use mathlib.Core.List.{List, []}
-use borrow.Author.Tests.{ltb-false, lt-ltb, le-ltb, not-false}
+use mathlib.Core.List.{List}
+use borrow.Author.Tests.{ltb-false, not-false}
 use lib.ListN.{length}
 use lib.Dec.{ltb}
 use Rattle.laws.specs.Lists.{same}
 use Rattle.laws.specs.Memory.{part}
 use Rattle.laws.proofs.Tests.{tells-same, tells-most, tells-and}
-use Rattle.model.specs.Refusals.{Verdict, passes, refuses, number, Refusal, Short, Long, Mark, Counts, Places, Small}
-use Rattle.model.specs.Rows.{widest, deps, WellFormed}
-use Rattle.model.specs.Trace.{Read, start, trace}
-use Rattle.model.specs.Image.{mark, headerSize, eventSize, threads, locks, events, offset, whole, countsFit, placesFit, header, limitsOf, notesOf, eventsOf}
-use Rattle.model.specs.Table.{tableRoom}
-use Rattle.model.specs.Reading.{notesFound, notesPlace, turnedAway, readImage, readInto}
-use Rattle.model.proofs.Refusals.{number-passes, numberOf-some, if-passes}
-use Rattle.model.proofs.Traces.{Way, on, stop, way, trace-well-formed}
+use Rattle.model.specs.Refusals.{passes, Short, Long, Mark, Counts, Places}
+use Rattle.model.specs.Rows.{widest}
+use Rattle.model.specs.Image.{mark, headerSize, eventSize, threads, locks, events, offset, whole, countsFit, placesFit, header}
+use Rattle.model.proofs.Refusals.{if-passes}
 
 pub record Accepted (b : List ℕ) : Type 0 where
   pub long : headerSize ≤ length b
@@ -62,47 +52,3 @@ accepted b h =
       after = q .0;
       ends = q .1 .1 ∙ q .1 .0;
     }
-
-module _ (b : List ℕ) where
-  refused : (number (header b) ≡ 0 → ⊥) → (r : Refusal) × (header b ≡ refuses r)
-  refused n = go (way (header b))
-    where
-      go : Way (header b) → (r : Refusal) × (header b ≡ refuses r)
-      go (on e) = absurd (n (ap number e))
-      go (stop r e) = (r, e)
-
-  pub notes-refused : (number (header b) ≡ 0 → ⊥) → (notesFound b ≡ []) × (notesPlace b ≡ 0)
-  unfolding notesFound notesPlace
-  notes-refused n = let w = refused n in (rw (w .1, notesFound), rw (w .1, notesPlace))
-
-  pub notes-passed : number (header b) ≡ 0 → (notesFound b ≡ notesOf b) × (notesPlace b ≡ headerSize)
-  unfolding notesFound notesPlace
-  notes-passed z = let e = number-passes (header b) z in (rw (e, notesFound), rw (e, notesPlace))
-
-  pub small-refused : (n : ℕ) → n < tableRoom → readInto n b ≡ turnedAway Small
-  unfolding readInto
-  small-refused n h = rw (lt-ltb n tableRoom h)
-
-  module _ (n : ℕ) (h : tableRoom ≤ n) where
-    -- reading turns the image away with the header's number
-    pub image-refused : (number (header b) ≡ 0 → ⊥) → (r : Refusal) × (number (header b) ≡ number (refuses r)) × (readInto n b ≡ turnedAway r)
-    unfolding readInto readImage
-    image-refused z = let w = refused z in (w .0, ap number (w .1), rw (le-ltb n tableRoom h, w .1, readImage))
-
-    pub image-passed : number (header b) ≡ 0 → readInto n b ≡ trace (limitsOf b) (eventsOf b)
-    unfolding readInto readImage
-    image-passed z = rw (le-ltb n tableRoom h, number-passes (header b) z, readImage)
-
--- whatever is read, also up to a refusal, is a well-formed table
-none-well-formed : WellFormed (deps (start .rows))
-none-well-formed = record { few = omega arith; fair = λ d i. absurd i; apart = tt }
-
-pub read-well-formed : (n : ℕ) (b : List ℕ) → WellFormed (deps (readInto n b .state .rows))
-read-well-formed n b = go (decLt n tableRoom) (ℕ-discrete (number (header b)) 0)
-  where
-    go : Dec (n < tableRoom) → Dec (number (header b) ≡ 0) → WellFormed (deps (readInto n b .state .rows))
-    go (yes l) d = rw (small-refused b n l) none-well-formed
-    go (no l) (yes z) =
-        let A = accepted b (number-passes (header b) z) in
-        rw (image-passed b n (omega arith) z) (trace-well-formed (limitsOf b) (eventsOf b) (A .fewThreads) (A .fewLocks))
-    go (no l) (no z) = rw (image-refused b n (omega arith) z .2) none-well-formed

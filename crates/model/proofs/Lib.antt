@@ -6,3 +6,4 @@ pub mod Sound
 pub mod Traces
 pub mod Tally
 pub mod Image
+pub mod Answers

@@ -3,7 +3,8 @@ use native.Mathlib.Omega.{arith}
 use mathlib.Core.Path.{refl, sym, _∙_}
 use Rattle.model.specs.Image.{notesOf}
 use Rattle.model.proofs.Refusals.{number-passes}
-use Rattle.model.proofs.Image.{accepted, notes-refused, notes-passed}
+use Rattle.model.proofs.Image.{accepted}
+use Rattle.model.proofs.Answers.{notes-refused, notes-passed}
 use borrow.Author.Needs.{needs}
 use Rattle.reader.proofs.notes.Statement.{statement}
 use Rattle.reader.proofs.notes.Tie as tie

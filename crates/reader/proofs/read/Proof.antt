@@ -4,7 +4,8 @@ use Prim.Native.Nat.{ℕ}
 use mathlib.Core.Path.{_≡_, sym, ap, _∙_}
 use lib.ListN.{length}
 use Rattle.model.proofs.Refusals.{number-passes}
-use Rattle.model.proofs.Image.{Accepted, accepted, small-refused, image-refused, image-passed}
+use Rattle.model.proofs.Image.{Accepted, accepted}
+use Rattle.model.proofs.Answers.{small-refused, image-refused, image-passed}
 use Rattle.model.specs.declared.Limits.{Limits}
 use Rattle.model.specs.Image.{limitsOf}
 use Rattle.model.specs.Reading.{outcome, told}
