@@ -1,14 +1,15 @@
 // Events over what the threads hold and the rows so far. `owner` has for each lock one more than the thread that holds it, or 0.
 ghost use mathlib.Core.Path.{_≡_};
+ghost use mathlib.Core.Bool.{false};
 ghost use mathlib.Core.List.{List, _∷_};
 ghost use Prim.Native.Nat.{ℕ, _+_, _*_, _≤_, _<_};
-ghost use lib.ListN.{length, take};
+ghost use lib.ListN.{length, take, getD};
 ghost use Rattle.model.specs.Holds.{mostHeld};
 ghost use Rattle.model.specs.Image.{eventSize, eventsFrom};
 ghost use Rattle.model.specs.Reading.{outcome, told};
 ghost use Rattle.model.specs.Rows.{widest};
 ghost use Rattle.model.specs.Table.{tableRoom};
-ghost use Rattle.model.specs.Trace.{State, trace};
+ghost use Rattle.model.specs.Trace.{State, holdsIt, trace};
 ghost use Rattle.holds.specs.Hold.{laid};
 ghost use Rattle.reader.specs.Working.{Linked, Ready, Named, Lies, Did, unnamedOf};
 use crate::image;
@@ -45,8 +46,8 @@ fn key_of(thread: u8, lock: u16, hold: Hold) -> [u16; 10]
     ]
 }
 
-// An acquire, by a thread that holds `hold`.
-fn acquire(
+// An acquire of a lock that nobody holds, by a thread that holds `hold` and has a place left.
+fn gain(
     event: Event,
     hold: Hold,
     p: u16,
@@ -56,38 +57,15 @@ fn acquire(
     next: &mut [u16],
     table: &mut [u16],
 ) -> Stepped
-    requires { ⌜ Ready rows (now table) (now head) (now next) × (length (now owner) ≡ 256) × (event .thread < 32) × (event .lock < 256) ⌝ }
+    requires { ⌜ Ready rows (now table) (now head) (now next) × (length (now owner) ≡ 256) × (event .thread < 32) × (event .lock < 256) × (hold .size < mostHeld) ⌝ }
     ensures { λ r. ⌜ Linked (now (table .exit)) (r .rows) (now (head .exit)) (now (next .exit)) ⌝ }
-    ensures { λ r. ⌜ ((n : Limits) (s : State) (t₀ : List ℕ) → Named 1 n event → n .threads ≤ 32 → hold ≡ laid (s .held (event .thread)) → Lies n s p t₀ rows (now (table .entry)) (now (owner .entry)) → Did n s p event t₀ (r .number) (r .hold) (r .rows) (now (table .exit)) (now (owner .exit))) ⌝ }
+    ensures { λ r. ⌜ ((n : Limits) (s : State) (t₀ : List ℕ) → Named 1 n event → n .threads ≤ 32 → hold ≡ laid (s .held (event .thread)) → Lies n s p t₀ rows (now (table .entry)) (now (owner .entry)) → holdsIt s event ≡ false → getD (now (owner .entry)) (event .lock) 0 ≡ 0 → Did n s p event t₀ (r .number) (r .hold) (r .rows) (now (table .exit)) (now (owner .exit))) ⌝ }
 {
     let t = event.thread;
     let m = event.lock;
-    let asked = hold.ask(m);
-    if asked.yes {
-        return Stepped {
-            number: 0,
-            hold,
-            rows,
-        };
-    }
     let i = m as usize;
-    if owner[i] != 0 {
-        return Stepped {
-            number: 9,
-            hold,
-            rows,
-        };
-    }
-    let n = hold.size;
-    if 8 <= n {
-        return Stepped {
-            number: 10,
-            hold,
-            rows,
-        };
-    }
     let taken = hold.take(m);
-    if n == 0 {
+    if hold.size == 0 {
         owner[i] = t + 1;
         return Stepped {
             number: 0,
@@ -109,6 +87,48 @@ fn acquire(
         hold: taken,
         rows: noted.rows,
     }
+}
+
+// An acquire, by a thread that holds `hold`.
+fn acquire(
+    event: Event,
+    hold: Hold,
+    p: u16,
+    rows: usize,
+    owner: &mut [u8],
+    head: &mut [u16],
+    next: &mut [u16],
+    table: &mut [u16],
+) -> Stepped
+    requires { ⌜ Ready rows (now table) (now head) (now next) × (length (now owner) ≡ 256) × (event .thread < 32) × (event .lock < 256) ⌝ }
+    ensures { λ r. ⌜ Linked (now (table .exit)) (r .rows) (now (head .exit)) (now (next .exit)) ⌝ }
+    ensures { λ r. ⌜ ((n : Limits) (s : State) (t₀ : List ℕ) → Named 1 n event → n .threads ≤ 32 → hold ≡ laid (s .held (event .thread)) → Lies n s p t₀ rows (now (table .entry)) (now (owner .entry)) → Did n s p event t₀ (r .number) (r .hold) (r .rows) (now (table .exit)) (now (owner .exit))) ⌝ }
+{
+    let m = event.lock;
+    let asked = hold.ask(m);
+    if asked.yes {
+        return Stepped {
+            number: 0,
+            hold,
+            rows,
+        };
+    }
+    let i = m as usize;
+    if owner[i] != 0 {
+        return Stepped {
+            number: 9,
+            hold,
+            rows,
+        };
+    }
+    if 8 <= hold.size {
+        return Stepped {
+            number: 10,
+            hold,
+            rows,
+        };
+    }
+    gain(event, hold, p, rows, owner, head, next, table)
 }
 
 // A release, by a thread that holds `hold`.
