@@ -1,5 +1,6 @@
 -- All events, one after the other.
 --     Runs             p events have been read: the state lies in the working memory, and the events left decide
+--     held-at                  what stands at a place of the holds
 --     runs-start, runs-on      before the first event, and after each that passes
 --     runs-ready       what the step relies on
 --     runs-stop, runs-end      the answer at a refusal, and at the end
@@ -47,6 +48,11 @@ pub record Runs (n : Limits) (bs t₀ ws : List ℕ) (holds : List Hold) (owner 
   pub place : at ≡ eventSize * p
   pub within : at ≤ length bs
   pub left : (count : ℕ) → length bs ≡ eventSize * count → trace n (eventsFrom count bs) ≡ reads n state p (eventsFrom (count - p) (drop at bs))
+
+-- what stands at a place of the holds is the hold of the thread with that number
+pub held-at : (n : Limits) (bs t₀ ws : List ℕ) (holds : List Hold) (owner head next : List ℕ) (rows p at : ℕ) (R : Runs n bs t₀ ws holds owner head next rows p at)
+    (d : Hold) (u t : ℕ) → u ≡ t → t < 32 → getD holds u d ≡ laid (R .state .held t)
+held-at n bs t₀ ws holds owner head next rows p at R d u t e l = rw e (R .each d t l)
 
 pub runs-start : (n : Limits) (bs t₀ : List ℕ) (none : Hold) → none ≡ laid nothing → Runs n bs t₀ t₀ (replicate 32 none) (replicate 256 0) (replicate 1024 0) (replicate 1024 0) 0 0 0
 runs-start n bs t₀ none e =

@@ -9,9 +9,13 @@
 //!     bytes AT B B ..        bytes written over the image from AT on, in hexadecimal
 //!     cut N, grow N          the image cut to N bytes, or grown to N by zeros
 //!     table N                N words are lent; otherwise 12,288
-//!     brief                  rows are compared by their sum, and not written out
+//!     brief                  the program prints the rows' sum, and not the rows
 //!     header N, read N P R   the header call's answer (0 if not said), and reading's
 //!     row T M {L ..} P N     a row: thread, wanted lock, H, position, occurrences
+//!     steps T A B C P N      the rows of a ladder: for each lock from B up to but without C one that holds A, the first at position P, each
+//!                            two events after the one before, with N occurrences
+//!
+//! The notes that are expected are those of the text where it says header 0, and none otherwise. No answer is taken from the second reader.
 
 use crate::image::{acquire, build, release, Event};
 use crate::reader::Row;
@@ -23,6 +27,7 @@ pub struct Case {
     pub words: usize,
     pub brief: bool,
     pub header: u16,
+    pub notes: Vec<u8>,
     pub read: (u16, usize, usize),
     pub rows: Vec<Row>,
 }
@@ -47,7 +52,8 @@ impl Draft {
         if let Some(n) = self.length {
             image.resize(n, 0);
         }
-        Case { image, ..self.case }
+        let notes = if self.case.header == 0 { self.notes } else { vec![] };
+        Case { image, notes, ..self.case }
     }
 }
 
@@ -77,6 +83,16 @@ fn ladder(n: &[usize]) -> Vec<Event> {
     }
     events.push(release(thread, outer));
     events
+}
+
+fn steps(n: &[usize]) -> impl Iterator<Item = Row> + '_ {
+    (n[2]..n[3]).enumerate().map(|(k, wanted)| Row {
+        thread: n[0] as u16,
+        wanted: wanted as u16,
+        held: [n[1] as u16].into(),
+        first: n[4] + 2 * k,
+        times: n[5],
+    })
 }
 
 fn row(text: &str) -> Row {
@@ -129,6 +145,7 @@ fn line(draft: &mut Draft, word: &str, rest: &str) {
             draft.case.read = (n[0] as u16, n[1], n[2]);
         }
         "row" => draft.case.rows.push(row(rest)),
+        "steps" => draft.case.rows.extend(steps(&numbers(rest))),
         _ => panic!("unknown word: {word}"),
     }
 }

@@ -35,14 +35,13 @@ fn lines(brief: bool, notes: &[u8], header: u16, number: u16, place: usize, rows
     text
 }
 
-/// The answers that the file of cases has, by hand. Of a brief case it has the numbers alone.
+/// The answers that the file of cases has, by hand.
 pub fn stored(cases: &[Case]) -> Vec<u8> {
     let mut text = String::new();
     for c in cases {
         let (number, place, count) = c.read;
-        let rows = if c.brief { reader::read(&c.image, c.words).rows } else { c.rows.clone() };
-        assert_eq!(rows.len(), count, "case {}: the rows are not as many as it says", c.name);
-        text += &lines(c.brief, reader::notes(&c.image), c.header, number, place, &rows);
+        assert_eq!(c.rows.len(), count, "case {}: the rows are not as many as it says", c.name);
+        text += &lines(c.brief, &c.notes, c.header, number, place, &c.rows);
     }
     text.into_bytes()
 }

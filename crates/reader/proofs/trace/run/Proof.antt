@@ -6,7 +6,7 @@ use mathlib.Core.Path.{_≡_, sym, _∙_}
 use mathlib.Core.List.{[]}
 use lib.ListN.{length}
 use Rattle.reader.specs.Working.{Did}
-use Rattle.reader.proofs.Running.{Runs, runs-start, runs-ready, runs-stop, runs-on, runs-end}
+use Rattle.reader.proofs.Running.{Runs, held-at, runs-start, runs-ready, runs-stop, runs-on, runs-end}
 use Rattle.reader.proofs.trace.run.Statement.{statement}
 use Rattle.reader.proofs.trace.run.Tie as tie
 
@@ -31,9 +31,10 @@ did : (c : tie.After-step Inv-loop μ-loop) →
 did c =
     let i = c .before .before .before .before .before .before .before .before in
     let l = i .before .loop in
+    let a = i .before .before .before .before .before .args in
     let e = c .before .before .before .before .before .before .before .event-at .result in
-    c .step .ensures .1 (l .inv .state) (i .before .before .before .before .before .args .table .now)
-    (λ h. let m : e .thread % 32 ≡ e .thread = omega arith in rw m (l .inv .each (record { places = []; size = 0 }) (e .thread) h)) (l .inv .lies)
+    c .step .ensures .1 (l .inv .state) (a .table .now)
+    (λ h. held-at (a .limits) (a .events .now) (a .table .now) (l .table) (l .holds) (l .owner) (l .head) (l .next) (l .rows) (l .p) (l .at) (l .inv) (record { places = []; size = 0 }) _ (e .thread) (omega arith) h) (l .inv .lies)
 
 none-requires : tie.Need-none-requires Inv-loop μ-loop
 none-requires c κs = search needs
