@@ -3,7 +3,7 @@
 --     in-map, map-in                   what stands in a list's image
 --     in-filter, filter-in, filter-append      those that pass
 --     in-below, below-in               what stands below a number
---     tells-any, tells-in, tells-same-list     what the tests of lists tell
+--     tells-any, -all, -pairs, -in, -same-list     what the tests of lists tell
 --     pairwise-.., append-pairwise     pairs of a joined list, of those that pass
 --     rising-same                      two lists that rise in one order and have the same in them are one list
 --     begins-..                        beginnings
@@ -18,7 +18,7 @@ use mathlib.Core.List.{List, [], _∷_, _++_, append-assoc, append-nil, map}
 use lib.ListN.{length, length-append}
 use lib.Dec.{eqb}
 use Rattle.laws.specs.Tests.{Tells}
-use Rattle.laws.specs.Lists.{In, Pairwise, Begins, any, same, consIf, filter, flat, upFrom, below}
+use Rattle.laws.specs.Lists.{In, Pairwise, Begins, any, all, pairs, same, consIf, filter, flat, upFrom, below}
 use Rattle.laws.proofs.Tests.{tells-same, tells-or, tells-and, tells-as}
 
 module _ {A : Type 0} where
@@ -50,6 +50,18 @@ module _ {A : Type 0} where
 
       back : (y : A) × In y (x ∷ xs) × P y → P x ⊎ ((y : A) × In y xs × P y)
       back w = at (w .0) (w .1) (w .2)
+
+  pub tells-all : {P : A → Type 0} (f : A → Bool) → ((x : A) → Tells (f x) (P x)) → (xs : List A) → Tells (all f xs) ((x : A) → In x xs → P x)
+  tells-all f d [] = (λ h x i. absurd i, λ h. refl)
+  tells-all {P} f d (x ∷ xs) = tells-as (tells-and (d x) (tells-all f d xs)) there (λ h. (h x (inl refl), λ y i. h y (inr i)))
+    where
+      there : (P x) × ((y : A) → In y xs → P y) → (y : A) → In y (x ∷ xs) → P y
+      there h y (inl e) = subst P (sym e) (h .0)
+      there h y (inr i) = h .1 y i
+
+  pub tells-pairs : {P : A → A → Type 0} (f : A → A → Bool) → ((x y : A) → Tells (f x y) (P x y)) → (xs : List A) → Tells (pairs f xs) (Pairwise P xs)
+  tells-pairs f d [] = (λ h. tt, λ h. refl)
+  tells-pairs f d (x ∷ xs) = tells-and (tells-all (f x) (d x) xs) (tells-pairs f d xs)
 
   -- ---- those that pass a test
 

@@ -1,8 +1,11 @@
 -- Lists.
 --     In x xs           x stands in xs
 --     Pairwise R xs     R x y for each x of xs and each y after it
+--     Linked R xs       R x y for each x of xs and the y next after it
 --     Begins xs ys      ys begins with xs
 --     any f xs          the test: some entry passes f
+--     all f xs          the test: every entry passes f
+--     pairs f xs        the test: f x y for each x of xs and each y after it
 --     same xs ys        the test: two lists of numbers are equal
 --     filter f xs       the entries that pass f
 --     flat f xs         f x for each x, one after the other
@@ -23,12 +26,25 @@ abbrev pub Pairwise : {A : Type 0} → (A → A → Type 0) → List A → Type 
 Pairwise R [] = Unit {0}
 Pairwise {A} R (x ∷ xs) = ((y : A) → In y xs → R x y) × Pairwise R xs
 
+abbrev pub Linked : {A : Type 0} → (A → A → Type 0) → List A → Type 0
+Linked R [] = Unit {0}
+Linked R (x ∷ []) = Unit {0}
+Linked R (x ∷ y ∷ ys) = R x y × Linked R (y ∷ ys)
+
 abbrev pub Begins : {A : Type 0} → List A → List A → Type 0
 Begins {A} xs ys = (zs : List A) × (ys ≡ xs ++ zs)
 
 abbrev pub any : {A : Type 0} → (A → Bool) → List A → Bool
 any f [] = false
 any f (x ∷ xs) = f x || any f xs
+
+abbrev pub all : {A : Type 0} → (A → Bool) → List A → Bool
+all f [] = true
+all f (x ∷ xs) = f x && all f xs
+
+abbrev pub pairs : {A : Type 0} → (A → A → Bool) → List A → Bool
+pairs f [] = true
+pairs f (x ∷ xs) = all (f x) xs && pairs f xs
 
 abbrev pub same : List ℕ → List ℕ → Bool
 same [] [] = true
