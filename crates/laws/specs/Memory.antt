@@ -3,6 +3,7 @@
 --     part at n xs    n entries of xs, from place `at` on
 --     field at n b    the number that n bytes of b write, from place `at` on
 --     over ws xs      the words ws laid over the beginning of xs: the rest of xs stays
+--     sum xs          the sum of the entries
 use Prim.Native.Nat.{ℕ, _+_, _*_}
 use mathlib.Core.List.{List, [], _∷_, _++_}
 use lib.ListN.{length, take, drop}
@@ -19,3 +20,7 @@ field at n b = little (part at n b)
 
 abbrev pub over : List ℕ → List ℕ → List ℕ
 over ws xs = ws ++ drop (length ws) xs
+
+abbrev pub sum : List ℕ → ℕ
+sum [] = 0
+sum (x ∷ xs) = x + sum xs

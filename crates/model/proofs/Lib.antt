@@ -7,3 +7,4 @@ pub mod Traces
 pub mod Tally
 pub mod Image
 pub mod Answers
+pub mod Given

@@ -5,3 +5,4 @@ pub mod Trace
 pub mod Image
 pub mod Table
 pub mod Reading
+pub mod Given

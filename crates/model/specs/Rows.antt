@@ -1,5 +1,6 @@
 -- Dependencies and rows (document 01, "From events to rows"), and well-formed tables ("Well formed").
 --     Dependency       the triple (t, m, H): thread t wanted lock m and held the set H
+--     row ds i         the dependency of number i; past the end stands `blank`, which holds nothing
 --     Row              a dependency, the position of its first arising, and how often it arose
 --     deps rs          the dependencies of rows
 --     sameDep d e      the test: two dependencies are one; isOf d r: row r is d's
@@ -17,7 +18,7 @@ use Prim.Native.Nat.{ℕ, _+_, _≤_, _<_}
 use mathlib.Core.Path.{_≡_}
 use mathlib.Core.Bool.{Bool, not, _&&_}
 use mathlib.Core.List.{List, [], _∷_, _++_, map}
-use lib.ListN.{length}
+use lib.ListN.{length, getD}
 use lib.Dec.{eqb, leb}
 use Rattle.laws.specs.Tests.{if_then_else_}
 use Rattle.laws.specs.Lists.{In, Pairwise, any, same}
@@ -31,6 +32,12 @@ pub record Dependency : Type 0 where
   pub thread : ℕ
   pub wanted : ℕ
   pub held : List ℕ
+
+abbrev pub blank : Dependency
+blank = record { thread = 0; wanted = 0; held = [] }
+
+abbrev pub row : List Dependency → ℕ → Dependency
+row ds i = getD ds i blank
 
 pub record Row : Type 0 where
   pub what : Dependency
