@@ -2,7 +2,8 @@
 --     in-left, in-right, in-append     what stands in two lists joined
 --     in-map, map-in                   what stands in a list's image
 --     in-filter, filter-in, filter-append      those that pass
---     in-below, below-in               what stands below a number
+--     filter-all, -shorter             all pass; all pass or it gets shorter
+--     in-below, below-in, below-rising     the numbers below a number
 --     tells-any, -all, -pairs, -in, -same-list     what the tests of lists tell
 --     pairwise-.., append-pairwise     pairs of a joined list, of those that pass
 --     rising-same                      two lists that rise in one order and have the same in them are one list
@@ -105,6 +106,19 @@ module _ {A : Type 0} where
   pub length-filter : (f : A → Bool) (xs : List A) → length (filter f xs) ≤ length xs
   length-filter f [] = omega arith
   length-filter f (x ∷ xs) = omega (arith, length-consIf (f x) x (filter f xs), length-filter f xs)
+
+  pub filter-all : (f : A → Bool) (xs : List A) → ((x : A) → In x xs → f x ≡ true) → filter f xs ≡ xs
+  filter-all f [] h = refl
+  filter-all f (x ∷ xs) h = rw (h x (inl refl)) (ap (λ (l : List A). x ∷ l) (filter-all f xs (λ y i. h y (inr i))))
+
+  pub filter-shorter : (f : A → Bool) (xs : List A) → (filter f xs ≡ xs) ⊎ (length (filter f xs) < length xs)
+  filter-shorter f [] = inl refl
+  filter-shorter f (x ∷ xs) = go (f x) (filter-shorter f xs)
+    where
+      go : (b : Bool) → (filter f xs ≡ xs) ⊎ (length (filter f xs) < length xs) → (consIf b x (filter f xs) ≡ x ∷ xs) ⊎ (length (consIf b x (filter f xs)) < suc (length xs))
+      go true (inl e) = inl (ap (λ (l : List A). x ∷ l) e)
+      go true (inr l) = inr (omega arith)
+      go false h = inr (omega (arith, length-filter f xs))
 
   -- ---- pairs
 
@@ -217,13 +231,20 @@ in-upFrom k (suc n) i a b = go (ℕ-discrete k i) (in-upFrom k n (suc i))
     go (yes e) ih = inl e
     go (no e) ih = inr (ih (omega arith) (omega arith))
 
-upFrom-in : (k n i : ℕ) → In k (upFrom n i) → k < i + n
+upFrom-in : (k n i : ℕ) → In k (upFrom n i) → (i ≤ k) × (k < i + n)
 upFrom-in k zero i h = absurd h
-upFrom-in k (suc n) i (inl e) = omega arith
-upFrom-in k (suc n) i (inr h) = omega (arith, upFrom-in k n (suc i) h)
+upFrom-in k (suc n) i (inl e) = (omega arith, omega arith)
+upFrom-in k (suc n) i (inr h) = let w = upFrom-in k n (suc i) h in (omega (arith, w .0), omega (arith, w .1))
+
+upFrom-rising : (n i : ℕ) → Pairwise _<_ (upFrom n i)
+upFrom-rising zero i = tt
+upFrom-rising (suc n) i = (λ k h. upFrom-in k n (suc i) h .0, upFrom-rising n (suc i))
 
 pub in-below : (k n : ℕ) → k < n → In k (below n)
 in-below k n h = in-upFrom k n 0 (omega arith) (omega arith)
 
 pub below-in : (k n : ℕ) → In k (below n) → k < n
-below-in k n h = omega (arith, upFrom-in k n 0 h)
+below-in k n h = omega (arith, upFrom-in k n 0 h .1)
+
+pub below-rising : (n : ℕ) → Pairwise _<_ (below n)
+below-rising n = upFrom-rising n 0

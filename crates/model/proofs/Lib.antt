@@ -7,3 +7,5 @@ pub mod Traces
 pub mod Tally
 pub mod Image
 pub mod Answers
+pub mod Tied
+pub mod Kept

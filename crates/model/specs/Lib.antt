@@ -5,3 +5,5 @@ pub mod Trace
 pub mod Image
 pub mod Table
 pub mod Reading
+pub mod Tied
+pub mod Kept

@@ -2,6 +2,7 @@
 --     Dependency       the triple (t, m, H): thread t wanted lock m and held the set H
 --     Row              a dependency, the position of its first arising, and how often it arose
 --     deps rs          the dependencies of rows
+--     row ds i         the dependency of the row that has number i; blank: it holds nothing, and stands past the end
 --     sameDep d e      the test: two dependencies are one; isOf d r: row r is d's
 --     known d rs       the test: d has a row
 --     newRow d p       the row of d where it arises for the first time, at position p
@@ -17,7 +18,7 @@ use Prim.Native.Nat.{ℕ, _+_, _≤_, _<_}
 use mathlib.Core.Path.{_≡_}
 use mathlib.Core.Bool.{Bool, not, _&&_}
 use mathlib.Core.List.{List, [], _∷_, _++_, map}
-use lib.ListN.{length}
+use lib.ListN.{length, getD}
 use lib.Dec.{eqb, leb}
 use Rattle.laws.specs.Tests.{if_then_else_}
 use Rattle.laws.specs.Lists.{In, Pairwise, any, same}
@@ -63,6 +64,12 @@ fullFor d rs = not (known d rs) && leb mostRows (length rs)
 
 abbrev pub deps : List Row → List Dependency
 deps rs = map (λ r. r .what) rs
+
+abbrev pub blank : Dependency
+blank = record { thread = 0; wanted = 0; held = [] }
+
+abbrev pub row : List Dependency → ℕ → Dependency
+row ds i = getD ds i blank
 
 abbrev pub placed : Row → Dependency × ℕ
 placed r = (r .what, r .first)
