@@ -6,21 +6,23 @@
 --     in-below, below-in, below-rising     the numbers below a number
 --     tells-any, -all, -pairs, -in, -same-list     what the tests of lists tell
 --     pairwise-.., append-pairwise     pairs of a joined list, of those that pass
+--     distinct-few                     numbers below n that all differ are n at most
 --     rising-same                      two lists that rise in one order and have the same in them are one list
 --     begins-..                        beginnings
 --     map-append, flat-append, length-flat
 use Prim.Native.Nat.{ℕ, zero, suc, _+_, _*_, _≤_, _<_}
+use native.Mathlib.Nat.{not-suc-le-zero}
 use native.Mathlib.Omega.{arith}
 use native.Mathlib.Decide.{ℕ-discrete}
 use mathlib.Core.Path.{_≡_, refl, sym, ap, subst, _∙_}
-use mathlib.Core.Bool.{Bool, true, false, false≢true}
+use mathlib.Core.Bool.{Bool, true, false, not, false≢true}
 use mathlib.Core.Logic.{_⊎_, inl, inr, ⊎-elim}
 use mathlib.Core.List.{List, [], _∷_, _++_, append-assoc, append-nil, map}
 use lib.ListN.{length, length-append}
 use lib.Dec.{eqb}
 use Rattle.laws.specs.Tests.{Tells}
 use Rattle.laws.specs.Lists.{In, Pairwise, Begins, any, all, pairs, same, consIf, filter, flat, upFrom, below}
-use Rattle.laws.proofs.Tests.{tells-same, tells-or, tells-and, tells-as}
+use Rattle.laws.proofs.Tests.{either, tells-same, tells-not, tells-or, tells-and, tells-as}
 
 module _ {A : Type 0} where
   pub in-left : (q : A) (xs ys : List A) → In q xs → In q (xs ++ ys)
@@ -170,6 +172,32 @@ module _ {A : Type 0} where
       left : x ≡ y → (z : A) → In z ys → In z (x ∷ xs) → In z xs
       left e z i (inl f) = absurd (irr y (subst (R y) (f ∙ e) (h .0 z i)))
       left e z i (inr j) = j
+
+  -- numbers below n that all differ are n at most
+  without : (f : A → ℕ) (n : ℕ) (xs : List A) → Pairwise (λ a b. f a ≡ f b → ⊥) xs → length xs ≤ suc (length (filter (λ x. not (eqb (f x) n)) xs))
+  without f n [] p = omega arith
+  without f n (x ∷ xs) p = go (either (eqb (f x) n)) (without f n xs (p .1))
+    where
+      others : f x ≡ n → filter (λ y. not (eqb (f y) n)) xs ≡ xs
+      others e = filter-all (λ y. not (eqb (f y) n)) xs (λ y i. tells-not (tells-same (f y) n) .1 (λ z. p .0 y i (e ∙ sym z)))
+
+      go : (eqb (f x) n ≡ true) ⊎ (eqb (f x) n ≡ false) → length xs ≤ suc (length (filter (λ y. not (eqb (f y) n)) xs)) → suc (length xs) ≤ suc (length (consIf (not (eqb (f x) n)) x (filter (λ y. not (eqb (f y) n)) xs)))
+      go (inl e) ih = rw e (omega (arith, ap length (others (tells-same (f x) n .0 e))))
+      go (inr e) ih = rw e (omega arith)
+
+  pub distinct-few : (f : A → ℕ) (n : ℕ) (xs : List A) → Pairwise (λ a b. f a ≡ f b → ⊥) xs → ((x : A) → In x xs → f x < n) → length xs ≤ n
+  distinct-few f zero [] p h = omega arith
+  distinct-few f zero (x ∷ xs) p h = absurd (not-suc-le-zero (h x (inl refl)))
+  distinct-few f (suc n) xs p h =
+      omega (
+        arith,
+        without f n xs p,
+        distinct-few f n (filter (λ x. not (eqb (f x) n)) xs) (pairwise-filter (λ a b. f a ≡ f b → ⊥) (λ x. not (eqb (f x) n)) xs p)
+            (λ x i. let w = filter-in (λ x. not (eqb (f x) n)) x xs i in lower (f x) (h x (w .0)) (tells-not (tells-same (f x) n) .0 (w .1))),
+      )
+    where
+      lower : (k : ℕ) → k < suc n → (k ≡ n → ⊥) → k < n
+      lower k l d = omega arith
 
   -- ---- beginnings
 

@@ -9,3 +9,5 @@ pub mod Image
 pub mod Answers
 pub mod Tied
 pub mod Kept
+pub mod Runs
+pub mod Chains

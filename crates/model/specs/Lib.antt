@@ -7,3 +7,4 @@ pub mod Table
 pub mod Reading
 pub mod Tied
 pub mod Kept
+pub mod Runs
