@@ -9,7 +9,8 @@
 --     distinct-few                     numbers below n that all differ are n at most
 --     rising-same                      two lists that rise in one order and have the same in them are one list
 --     begins-..                        beginnings
---     map-append, flat-append, length-flat
+--     in-flat, flat-in, pairwise-flat  what stands in joined images, and pairs of them
+--     map-append, flat-append
 use Prim.Native.Nat.{ℕ, zero, suc, _+_, _*_, _≤_, _<_}
 use native.Mathlib.Nat.{not-suc-le-zero}
 use native.Mathlib.Omega.{arith}
@@ -147,6 +148,10 @@ module _ {A : Type 0} where
       go true p = (λ y i. h .0 y (filter-in f y xs i .0), p)
       go false p = p
 
+  pub pairwise-wider : (R Q : A → A → Type 0) (xs : List A) → ((a b : A) → R a b → Q a b) → Pairwise R xs → Pairwise Q xs
+  pairwise-wider R Q [] h p = tt
+  pairwise-wider R Q (x ∷ xs) h p = (λ y i. h x y (p .0 y i), pairwise-wider R Q xs h (p .1))
+
   -- two lists that rise in one order and have the same in them are one list
   pub rising-same : (R : A → A → Type 0) → ((a : A) → R a a → ⊥) → ((a b : A) → R a b → R b a → ⊥)
       → (xs ys : List A) → Pairwise R xs → Pairwise R ys → ((x : A) → In x xs → In x ys) → ((x : A) → In x ys → In x xs) → xs ≡ ys
@@ -230,6 +235,26 @@ module _ {A B : Type 0} where
   pub flat-append : (f : A → List B) (xs ys : List A) → flat f (xs ++ ys) ≡ flat f xs ++ flat f ys
   flat-append f [] ys = refl
   flat-append f (x ∷ xs) ys = ap (λ (l : List B). f x ++ l) (flat-append f xs ys) ∙ sym (append-assoc (f x) (flat f xs) (flat f ys))
+
+  pub in-flat : (f : A → List B) (q : B) (x : A) (xs : List A) → In x xs → In q (f x) → In q (flat f xs)
+  in-flat f q x [] i h = absurd i
+  in-flat f q x (y ∷ ys) (inl e) h = in-left q (f y) (flat f ys) (subst (λ (z : A). In q (f z)) e h)
+  in-flat f q x (y ∷ ys) (inr i) h = in-right q (f y) (flat f ys) (in-flat f q x ys i h)
+
+  pub flat-in : (f : A → List B) (q : B) (xs : List A) → In q (flat f xs) → (x : A) × In x xs × In q (f x)
+  flat-in f q [] h = absurd h
+  flat-in f q (y ∷ ys) h = go (in-append q (f y) (flat f ys) h) (flat-in f q ys)
+    where
+      go : In q (f y) ⊎ In q (flat f ys) → (In q (flat f ys) → (x : A) × In x ys × In q (f x)) → (x : A) × In x (y ∷ ys) × In q (f x)
+      go (inl i) ih = (y, inl refl, i)
+      go (inr i) ih = let w = ih i in (w .0, inr (w .1), w .2)
+
+  pub pairwise-flat : (f : A → List B) (S : A → A → Type 0) (R : B → B → Type 0) (xs : List A) → Pairwise S xs → ((x : A) → In x xs → Pairwise R (f x))
+      → ((x y : A) → S x y → (a b : B) → In a (f x) → In b (f y) → R a b) → Pairwise R (flat f xs)
+  pairwise-flat f S R [] p h c = tt
+  pairwise-flat f S R (x ∷ xs) p h c =
+      pairwise-append R (f x) (flat f xs) (h x (inl refl)) (pairwise-flat f S R xs (p .1) (λ y i. h y (inr i)) c)
+      (λ a b i j. let w = flat-in f b xs j in c x (w .0) (p .0 (w .0) (w .1)) a b i (w .2))
 
 pub tells-in : (m : ℕ) (xs : List ℕ) → Tells (any (eqb m) xs) (In m xs)
 tells-in m xs = tells-as (tells-any (eqb m) (tells-same m) xs) (λ w. subst (λ (z : ℕ). In z xs) (sym (w .2)) (w .1)) (λ i. (m, i, refl))

@@ -11,3 +11,4 @@ pub mod Tied
 pub mod Kept
 pub mod Runs
 pub mod Chains
+pub mod Listed

@@ -18,6 +18,7 @@
 --     Within us p      the rows of p are all of us
 --     grown b f q      q and the extensions f q of it where b passes, and otherwise nothing
 --     from R ds us k p     the extensions of p by one to k rows of us, in order
+--     next R ds us k p i   row i after p where it fits, and the extensions of that by at most k rows
 --     runs R ds us     the runs made of the rows us, in order
 --     rowsOf ds        the numbers of all rows, rising
 use Prim.Native.Nat.{ℕ, zero, suc, _≤_, _<_}
@@ -122,6 +123,9 @@ grown false f q = []
 unfoldable pub from : Rule → List Dependency → List ℕ → ℕ → List ℕ → List (List ℕ)
 from R ds us zero p = []
 from R ds us (suc k) p = flat (λ i. grown (fits R ds p i) (from R ds us k) (p ++ (i ∷ []))) us
+
+abbrev pub next : Rule → List Dependency → List ℕ → ℕ → List ℕ → ℕ → List (List ℕ)
+next R ds us k p i = grown (fits R ds p i) (from R ds us k) (p ++ (i ∷ []))
 
 abbrev pub runs : Rule → List Dependency → List ℕ → List (List ℕ)
 runs R ds us = from R ds us mostRun []
