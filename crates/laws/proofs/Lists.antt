@@ -209,6 +209,12 @@ module _ {A : Type 0} where
   pub begins-itself : (xs : List A) → Begins xs xs
   begins-itself xs = ([], sym (append-nil xs))
 
+  pub begins-none : (xs : List A) → Begins [] xs
+  begins-none xs = (xs, refl)
+
+  pub begins-cons : (x : A) (xs ys : List A) → Begins xs ys → Begins (x ∷ xs) (x ∷ ys)
+  begins-cons x xs ys w = (w .0, ap (λ (l : List A). x ∷ l) (w .1))
+
   pub begins-longer : (xs ys : List A) → Begins xs (xs ++ ys)
   begins-longer xs ys = (ys, refl)
 

@@ -12,3 +12,4 @@ pub mod Kept
 pub mod Runs
 pub mod Chains
 pub mod Listed
+pub mod Walks

@@ -8,3 +8,4 @@ pub mod Reading
 pub mod Tied
 pub mod Kept
 pub mod Runs
+pub mod Answer
