@@ -10,7 +10,7 @@
 --     rising-same                      two lists that rise in one order and have the same in them are one list
 --     begins-..                        beginnings
 --     in-flat, flat-in, pairwise-flat  what stands in joined images, and pairs of them
---     map-append, flat-append
+--     map-append, flat-append, flat-filter, flat-begins     images of a joined list, of those that pass, of a beginning
 use Prim.Native.Nat.{ℕ, zero, suc, _+_, _*_, _≤_, _<_}
 use native.Mathlib.Nat.{not-suc-le-zero}
 use native.Mathlib.Omega.{arith}
@@ -21,7 +21,7 @@ use mathlib.Core.Logic.{_⊎_, inl, inr, ⊎-elim}
 use mathlib.Core.List.{List, [], _∷_, _++_, append-assoc, append-nil, map}
 use lib.ListN.{length, length-append}
 use lib.Dec.{eqb}
-use Rattle.laws.specs.Tests.{Tells}
+use Rattle.laws.specs.Tests.{Tells, if_then_else_}
 use Rattle.laws.specs.Lists.{In, Pairwise, Begins, any, all, pairs, same, consIf, filter, flat, upFrom, below}
 use Rattle.laws.proofs.Tests.{either, tells-same, tells-not, tells-or, tells-and, tells-as}
 
@@ -241,6 +241,18 @@ module _ {A B : Type 0} where
   pub flat-append : (f : A → List B) (xs ys : List A) → flat f (xs ++ ys) ≡ flat f xs ++ flat f ys
   flat-append f [] ys = refl
   flat-append f (x ∷ xs) ys = ap (λ (l : List B). f x ++ l) (flat-append f xs ys) ∙ sym (append-assoc (f x) (flat f xs) (flat f ys))
+
+  pub flat-begins : (f : A → List B) (xs ys : List A) → Begins xs ys → Begins (flat f xs) (flat f ys)
+  flat-begins f xs ys w = (flat f (w .0), ap (flat f) (w .1) ∙ flat-append f xs (w .0))
+
+  pub flat-filter : (f : A → List B) (g : A → Bool) (xs : List A) → flat f (filter g xs) ≡ flat (λ x. if g x then f x else []) xs
+  flat-filter f g [] = refl
+  flat-filter f g (x ∷ xs) = go (g x) (flat-filter f g xs)
+    where
+      go : (b : Bool) → flat f (filter g xs) ≡ flat (λ x. if g x then f x else []) xs
+          → flat f (consIf b x (filter g xs)) ≡ (if b then f x else []) ++ flat (λ x. if g x then f x else []) xs
+      go true e = ap (λ (l : List B). f x ++ l) e
+      go false e = e
 
   pub in-flat : (f : A → List B) (q : B) (x : A) (xs : List A) → In x xs → In q (f x) → In q (flat f xs)
   in-flat f q x [] i h = absurd i

@@ -13,3 +13,4 @@ pub mod Runs
 pub mod Chains
 pub mod Listed
 pub mod Walks
+pub mod After

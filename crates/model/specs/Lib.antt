@@ -9,3 +9,4 @@ pub mod Tied
 pub mod Kept
 pub mod Runs
 pub mod Answer
+pub mod After
