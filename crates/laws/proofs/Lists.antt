@@ -2,7 +2,8 @@
 --     in-left, in-right, in-append     what stands in two lists joined
 --     in-map, map-in                   what stands in a list's image
 --     in-filter, filter-in, filter-append      those that pass
---     filter-all, -shorter             all pass; all pass or it gets shorter
+--     filter-all, -shorter, -under     all pass; all pass or it gets shorter; of those that pass a wider test
+--     in-none                          a list in which nothing stands
 --     in-below, below-in, below-rising     the numbers below a number
 --     tells-any, -all, -pairs, -in, -same-list     what the tests of lists tell
 --     pairwise-.., append-pairwise     pairs of a joined list, of those that pass
@@ -23,7 +24,7 @@ use lib.ListN.{length, length-append}
 use lib.Dec.{eqb}
 use Rattle.laws.specs.Tests.{Tells, if_then_else_}
 use Rattle.laws.specs.Lists.{In, Pairwise, Begins, any, all, pairs, same, consIf, filter, flat, upFrom, below}
-use Rattle.laws.proofs.Tests.{either, tells-same, tells-not, tells-or, tells-and, tells-as}
+use Rattle.laws.proofs.Tests.{either, never, tells-same, tells-not, tells-or, tells-and, tells-as}
 
 module _ {A : Type 0} where
   pub in-left : (q : A) (xs ys : List A) → In q xs → In q (xs ++ ys)
@@ -39,6 +40,10 @@ module _ {A : Type 0} where
   in-append q [] ys h = inr h
   in-append q (x ∷ xs) ys (inl e) = inl (inl e)
   in-append q (x ∷ xs) ys (inr h) = ⊎-elim (λ a. inl (inr a)) inr (in-append q xs ys h)
+
+  pub in-none : (xs : List A) → ((x : A) → In x xs → ⊥) → xs ≡ []
+  in-none [] h = refl
+  in-none (x ∷ xs) h = absurd (h x (inl refl))
 
   pub tells-any : {P : A → Type 0} (f : A → Bool) → ((x : A) → Tells (f x) (P x)) → (xs : List A) → Tells (any f xs) ((x : A) × In x xs × P x)
   tells-any f d [] = (λ h. absurd (false≢true h), λ h. absurd (h .1))
@@ -113,6 +118,15 @@ module _ {A : Type 0} where
   pub filter-all : (f : A → Bool) (xs : List A) → ((x : A) → In x xs → f x ≡ true) → filter f xs ≡ xs
   filter-all f [] h = refl
   filter-all f (x ∷ xs) h = rw (h x (inl refl)) (ap (λ (l : List A). x ∷ l) (filter-all f xs (λ y i. h y (inr i))))
+
+  pub filter-under : (f g : A → Bool) (xs : List A) → ((x : A) → In x xs → g x ≡ true → f x ≡ true) → filter g (filter f xs) ≡ filter g xs
+  filter-under f g [] h = refl
+  filter-under f g (x ∷ xs) h = go (f x) (g x) refl refl (filter-under f g xs (λ y i. h y (inr i)))
+    where
+      go : (b c : Bool) → f x ≡ b → g x ≡ c → filter g (filter f xs) ≡ filter g xs → filter g (consIf b x (filter f xs)) ≡ consIf c x (filter g xs)
+      go true c p q e = rw (q, e)
+      go false true p q e = absurd (never (h x (inl refl) q) p)
+      go false false p q e = e
 
   pub filter-shorter : (f : A → Bool) (xs : List A) → (filter f xs ≡ xs) ⊎ (length (filter f xs) < length xs)
   filter-shorter f [] = inl refl

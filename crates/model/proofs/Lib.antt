@@ -14,3 +14,4 @@ pub mod Chains
 pub mod Listed
 pub mod Walks
 pub mod After
+pub mod NothingLost

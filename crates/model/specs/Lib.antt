@@ -10,3 +10,4 @@ pub mod Kept
 pub mod Runs
 pub mod Answer
 pub mod After
+pub mod Searches
