@@ -8,3 +8,11 @@ pub mod Tally
 pub mod Image
 pub mod Answers
 pub mod Given
+pub mod Tied
+pub mod Kept
+pub mod Runs
+pub mod Chains
+pub mod Listed
+pub mod Walks
+pub mod After
+pub mod NothingLost

@@ -1,9 +1,11 @@
--- How rows change when a dependency arises.
+-- Rows and their numbers, and how rows change when a dependency arises.
+--     row-in, in-row                  a row by its number
 --     tells-same-dep, tells-known     what the tests tell
 --     arose-known, arose-new, arose-either     the two cases
 --     deps-counted, firsts-counted, placed-counted      a repeat changes no dependency and no position
 --     counted-none                    and no row of another dependency
-use Prim.Native.Nat.{ℕ, _+_, _≤_}
+use Prim.Native.Nat.{ℕ, zero, suc, _+_, _≤_, _<_}
+use native.Mathlib.Nat.{le-of-suc-le-suc, not-suc-le-zero}
 use native.Mathlib.Omega.{arith}
 use mathlib.Core.Path.{_≡_, refl, sym, ap, ap₂, subst, _∙_}
 use mathlib.Core.Bool.{Bool, true, false}
@@ -14,7 +16,17 @@ use Rattle.laws.specs.Tests.{Tells, if_then_else_}
 use Rattle.laws.specs.Lists.{In, same}
 use Rattle.laws.proofs.Tests.{either, fails, tells-same, tells-and, tells-as}
 use Rattle.laws.proofs.Lists.{in-map, map-in, in-append, tells-any, tells-same-list}
-use Rattle.model.specs.Rows.{Dependency, Row, sameDep, isOf, known, newRow, again, counted, arose, deps, placed}
+use Rattle.model.specs.Rows.{Dependency, Row, row, sameDep, isOf, known, newRow, again, counted, arose, deps, placed}
+
+pub row-in : (ds : List Dependency) (i : ℕ) → i < length ds → In (row ds i) ds
+row-in [] i h = absurd (not-suc-le-zero h)
+row-in (d ∷ ds) zero h = inl refl
+row-in (d ∷ ds) (suc i) h = inr (row-in ds i (le-of-suc-le-suc h))
+
+pub in-row : (ds : List Dependency) (d : Dependency) → In d ds → (i : ℕ) × (i < length ds) × (row ds i ≡ d)
+in-row [] d h = absurd h
+in-row (x ∷ ds) d (inl e) = (0, omega arith, sym e)
+in-row (x ∷ ds) d (inr h) = let w = in-row ds d h in (suc (w .0), omega (arith, w .1), w .2)
 
 pub tells-same-dep : (d e : Dependency) → Tells (sameDep d e) (d ≡ e)
 unfolding sameDep

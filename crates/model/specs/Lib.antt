@@ -6,3 +6,9 @@ pub mod Image
 pub mod Table
 pub mod Reading
 pub mod Given
+pub mod Tied
+pub mod Kept
+pub mod Runs
+pub mod Answer
+pub mod After
+pub mod Searches
