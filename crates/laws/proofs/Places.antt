@@ -1,21 +1,30 @@
 -- Lists by their places.
+--     none-next                    what no number below i has, and i has not, no number below i + 1 has
 --     place-in, in-place           the entry in a place stands in the list, and what stands in a list has a place
 --     pairwise-place, place-pairwise    pairs by two places, one before the other
 --     getD-map                     an entry of a list's image
 --     getD-below                   the numbers below n by their places
 --     sum-set                      a list's sum after one entry is put to 0
---     over-take                    words laid over memory one by one
-use Prim.Native.Nat.{ℕ, zero, suc, _+_, _≤_, _<_}
+--     over-next, over-take, over-over    words laid over memory one by one
+use Prim.Native.Nat.{ℕ, zero, suc, _+_, _-_, _≤_, _<_}
 use native.Mathlib.Nat.{le-of-suc-le-suc}
 use native.Mathlib.Omega.{arith}
+use native.Mathlib.Decide.{ℕ-discrete}
 use native.Mathlib.Numerals.{add-one}
 use mathlib.Core.Path.{_≡_, refl, sym, ap, subst, _∙_}
 use mathlib.Core.Logic.{_⊎_, inl, inr, ⊎-elim}
 use mathlib.Core.List.{List, [], _∷_, _++_, append-assoc, map}
 use lib.ListN.{length, getD, take, drop, set, length-append, length-drop, length-map}
-use lib.Seq.{length-take-le, take-suc, drop-cons, set-at, take-append-le, take-take}
+use lib.Seq.{length-take-le, take-suc, drop-cons, set-at, take-all, take-append-le, take-take, drop-append-add, drop-drop}
 use Rattle.laws.specs.Lists.{In, Pairwise, upFrom, below}
 use Rattle.laws.specs.Memory.{over, sum}
+
+pub none-next : (P : ℕ → Type 0) (i : ℕ) → ((j : ℕ) → j < i → P j → ⊥) → (P i → ⊥) → (j : ℕ) → j < i + 1 → P j → ⊥
+none-next P i h n j l = go (ℕ-discrete j i)
+  where
+    go : Dec (j ≡ i) → P j → ⊥
+    go (yes e) = λ p. n (subst P e p)
+    go (no e) = h j (omega arith)
 
 module _ {A : Type 0} (d : A) where
   pub place-in : (xs : List A) (i : ℕ) → i < length xs → In (getD xs i d) xs
@@ -81,3 +90,13 @@ module _ (ws xs : List ℕ) where
   over-take j k h l =
       let n : j ≤ length (take k ws) = omega (arith, length-take-le k ws l) in
       take-append-le j (take k ws) (drop (length (take k ws)) xs) n ∙ take-take j k ws h
+
+  pub over-all : (k : ℕ) → length ws ≤ k → over (take k ws) xs ≡ over ws xs
+  over-all k h = ap (λ (l : List ℕ). over l xs) (take-all k ws h)
+
+-- what was laid before is laid over
+pub over-over : (us ws xs : List ℕ) → length us ≤ length ws → over ws (over us xs) ≡ over ws xs
+over-over us ws xs h =
+    let e : length ws ≡ length us + (length ws - length us) = omega arith in
+    ap (λ (l : List ℕ). ws ++ l)
+    (ap (λ (k : ℕ). drop k (over us xs)) e ∙ drop-append-add us (drop (length us) xs) (length ws - length us) ∙ drop-drop (length ws - length us) (length us) xs ∙ ap (λ (k : ℕ). drop k xs) (sym e))

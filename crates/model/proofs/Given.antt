@@ -6,7 +6,7 @@
 --     RowWell t i          the words in place i are a fair row's
 --     given-few, -room, -row, -apart    what a given table has
 --     given-of             and a table that has it is given
---     Lies t i d           where each part of the row d lies; given-lies: so it is with each row of a given table
+--     Lies t i d           where each part of the row d lies; well-lies, given-lies: so it is with a fair row, and each row of a given table
 use Prim.Native.Nat.{ℕ, zero, suc, _+_, _*_, _-_, _≤_, _<_}
 use native.Mathlib.Nat.{le-of-suc-le-suc}
 use native.Mathlib.Omega.{arith}
@@ -29,6 +29,7 @@ use Rattle.model.specs.Rows.{mostRows, widest, Dependency, blank, row, R
 use Rattle.model.specs.Table.{unused, padded, rowSize, keyWords, rowWords, tableWords}
 use Rattle.model.specs.Given.{rowOf, rowsOf, depsOf, Given, fair, wellFormed, given}
 use Rattle.model.proofs.Rows.{tells-same-dep}
+use Rattle.model.proofs.Table.{key-once}
 
 pub tells-fair : (l : Limits) (d : Dependency) → Tells (fair l d) (Fair l d)
 tells-fair l d =
@@ -60,15 +61,6 @@ tells-well-formed ds =
     (λ w. record { few = w .0; fair = w .1 .0; apart = w .1 .1 })
     (λ w. (w .few, (w .fair, w .apart)))
 
-key-once : (d e : Dependency) → keyWords d ≡ keyWords e → d ≡ e
-key-once d e q =
-    let t : d .thread ≡ e .thread = ap (λ (l : List ℕ). getD l 0 0) q in
-    let w : d .wanted ≡ e .wanted = ap (λ (l : List ℕ). getD l 1 0) q in
-    let n : length (d .held) ≡ length (e .held) = ap (λ (l : List ℕ). getD l 2 0) q in
-    let p : padded 7 (d .held) ≡ padded 7 (e .held) = ap (drop 3) q in
-    let h : d .held ≡ e .held = sym (take-append-seam (d .held) (replicate (7 - length (d .held)) unused)) ∙ ap₂ take n p ∙ take-append-seam (e .held) (replicate (7 - length (e .held)) unused) in
-    λ i. record { thread = t i; wanted = w i; held = h i }
-
 -- ---- a row's words
 
 padded-length : (xs : List ℕ) → length xs ≤ 7 → length (padded 7 xs) ≡ 7
@@ -90,8 +82,8 @@ row-back r h =
     let e : take (length (r .what .held)) (part 3 7 (rowWords r)) ≡ r .what .held = ap (take (length (r .what .held))) q ∙ take-append-seam (r .what .held) (replicate (7 - length (r .what .held)) unused) in
     let f : getD (rowWords r) 10 0 ≡ r .first = getD-at (keyWords (r .what)) (r .first) (r .times ∷ []) 0 10 k in
     let g : getD (rowWords r) 11 0 ≡ r .times =
-        ap (λ (l : List ℕ). getD l 11 0) (sym (append-assoc (keyWords (r .what)) (r .first ∷ []) (r .times ∷ [])))
-        ∙ getD-at (keyWords (r .what) ++ (r .first ∷ [])) (r .times) [] 0 11 (length-append (keyWords (r .what)) (r .first ∷ []) ∙ omega arith) in
+    ap (λ (l : List ℕ). getD l 11 0) (sym (append-assoc (keyWords (r .what)) (r .first ∷ []) (r .times ∷ [])))
+    ∙ getD-at (keyWords (r .what) ++ (r .first ∷ [])) (r .times) [] 0 11 (length-append (keyWords (r .what)) (r .first ∷ []) ∙ omega arith) in
     λ i. record { what = record { thread = r .what .thread; wanted = r .what .wanted; held = e i }; first = f i; times = g i }
 
 -- ---- the rows that words are read as
@@ -104,8 +96,12 @@ length-rows (suc n) t = ap suc (length-rows n (drop rowSize t))
 pub length-deps : (n : ℕ) (t : List ℕ) → length (depsOf n t) ≡ n
 length-deps n t = length-map (rowsOf n t) (λ r. r .what) ∙ length-rows n t
 
-pub deps-at : (n : ℕ) (t : List ℕ) (i : ℕ) → i < n → row (depsOf n t) i ≡ rowOf (part (i * rowSize) rowSize t) .what
-unfolding rowsOf
+-- the dependency of the row in place i
+unfoldable pub depAt : List ℕ → ℕ → Dependency
+depAt t i = rowOf (part (i * rowSize) rowSize t) .what
+
+pub deps-at : (n : ℕ) (t : List ℕ) (i : ℕ) → i < n → row (depsOf n t) i ≡ depAt t i
+unfolding rowsOf depAt
 deps-at zero t i h = absurd (let z : ⊥ = omega arith in z)
 deps-at (suc n) t zero h = refl
 deps-at (suc n) t (suc i) h =
@@ -142,9 +138,10 @@ module _ (n : ℕ) (t : List ℕ) where
       let r = rowOf (take rowSize t) in
       let a : length (rowWords r) ≡ rowSize = row-length r (held-short (take rowSize t)) in
       let b : length (take rowSize t) ≡ rowSize = length-take rowSize t ∙ omega (arith, whole-room (suc n) t e) in
-      let q = e ∙ more in
-      (sym (take-at (rowWords r) (tableWords (rowsOf n (drop rowSize t))) rowSize a) ∙ ap (take rowSize) q ∙ take-at (take rowSize t) (take (n * rowSize) (drop rowSize t)) rowSize b,
-        sym (drop-at (rowWords r) (tableWords (rowsOf n (drop rowSize t))) rowSize a) ∙ ap (drop rowSize) q ∙ drop-at (take rowSize t) (take (n * rowSize) (drop rowSize t)) rowSize b)
+      let q = e ∙ more in (
+        sym (take-at (rowWords r) (tableWords (rowsOf n (drop rowSize t))) rowSize a) ∙ ap (take rowSize) q ∙ take-at (take rowSize t) (take (n * rowSize) (drop rowSize t)) rowSize b,
+        sym (drop-at (rowWords r) (tableWords (rowsOf n (drop rowSize t))) rowSize a) ∙ ap (drop rowSize) q ∙ drop-at (take rowSize t) (take (n * rowSize) (drop rowSize t)) rowSize b,
+      )
 
   parts-whole : rowWords (rowOf (take rowSize t)) ≡ take rowSize t → Whole n (drop rowSize t) → Whole (suc n) t
   unfolding rowsOf
@@ -187,9 +184,6 @@ given-passes n t rs g = tells-given n t .1 (subst (Given n t) (sym (given-rows n
 
 abbrev pub keyAt : List ℕ → ℕ → List ℕ
 keyAt t i = part (i * rowSize) 10 t
-
-abbrev pub depAt : List ℕ → ℕ → Dependency
-depAt t i = rowOf (part (i * rowSize) rowSize t) .what
 
 pub record RowWell (t : List ℕ) (i : ℕ) : Type 0 where
   pub fair : Fair widest (depAt t i)
@@ -246,6 +240,7 @@ module _ (n : ℕ) (t : List ℕ) (g : given n t ≡ true) where
   given-room = whole-room n t whole
 
   pub given-row : (i : ℕ) → i < n → RowWell t i
+  unfolding depAt
   given-row i h =
       record {
         fair = subst (Fair widest) (deps-at n t i h) (well .fair (row (depsOf n t) i) (place-in blank (depsOf n t) i (omega (arith, length-deps n t))));
@@ -261,20 +256,22 @@ module _ (n : ℕ) (t : List ℕ) (g : given n t ≡ true) where
       (deps-at n t i (omega arith) ∙ key-once (depAt t i) (depAt t j) (p ∙ e ∙ sym q) ∙ sym (deps-at n t j l))
 
 pub given-of : (n : ℕ) (t : List ℕ) → n ≤ mostRows → n * rowSize ≤ length t → ((i : ℕ) → i < n → RowWell t i) → ((i j : ℕ) → i < j → j < n → keyAt t i ≡ keyAt t j → ⊥) → given n t ≡ true
-unfolding given
+unfolding given depAt
 given-of n t few room rows apart =
-    tells-and (tells-well-formed (depsOf n t)) (tells-same-list (tableWords (rowsOf n t)) (take (n * rowSize) t)) .1
-    (record {
-      few = omega (arith, length-deps n t);
-      fair = λ d i. let w = in-place blank (depsOf n t) d i in
-          let l : w .0 < n = omega (arith, w .1, length-deps n t) in
-          subst (Fair widest) (sym (deps-at n t (w .0) l) ∙ w .2) (rows (w .0) l .fair);
-      apart = place-pairwise blank (λ d e. d ≡ e → ⊥) (depsOf n t)
-          (λ i j h l e.
-          let m : j < n = omega (arith, l, length-deps n t) in
-          let k : i < n = omega arith in
-          apart i j h m (sym (rows i k .key) ∙ ap keyWords (sym (deps-at n t i k) ∙ e ∙ deps-at n t j m) ∙ rows j m .key));
-    }, whole-of n t (λ i h. whole-row (part (i * rowSize) rowSize t) (part-length t (i * rowSize) rowSize (row-room n t i room h)) (rows i h .key ∙ sym (key-part t i))))
+    tells-and (tells-well-formed (depsOf n t)) (tells-same-list (tableWords (rowsOf n t)) (take (n * rowSize) t)) .1 (
+      record {
+        few = omega (arith, length-deps n t);
+        fair = λ d i. let w = in-place blank (depsOf n t) d i in
+            let l : w .0 < n = omega (arith, w .1, length-deps n t) in
+            subst (Fair widest) (sym (deps-at n t (w .0) l) ∙ w .2) (rows (w .0) l .fair);
+        apart = place-pairwise blank (λ d e. d ≡ e → ⊥) (depsOf n t)
+            (λ i j h l e.
+            let m : j < n = omega (arith, l, length-deps n t) in
+            let k : i < n = omega arith in
+            apart i j h m (sym (rows i k .key) ∙ ap keyWords (sym (deps-at n t i k) ∙ e ∙ deps-at n t j m) ∙ rows j m .key));
+      },
+      whole-of n t (λ i h. whole-row (part (i * rowSize) rowSize t) (part-length t (i * rowSize) rowSize (row-room n t i room h)) (rows i h .key ∙ sym (key-part t i))),
+    )
 
 -- ---- where each part of a row lies
 
@@ -286,15 +283,19 @@ pub record Lies (t : List ℕ) (i : ℕ) (d : Dependency) : Type 0 where
   pub held : (k : ℕ) → k < length (d .held) → getD t (i * rowSize + 3 + k) 0 ≡ getD (d .held) k 0
   pub fair : Fair widest d
 
-pub given-lies : (n : ℕ) (t : List ℕ) → given n t ≡ true → (i : ℕ) → i < n → Lies t i (row (depsOf n t) i)
-given-lies n t g i h = subst (Lies t i) (sym (deps-at n t i h)) lies
+-- a fair row's words are where they should be
+pub well-lies : (t : List ℕ) (i : ℕ) → i * rowSize + rowSize ≤ length t → RowWell t i → Lies t i (depAt t i)
+unfolding depAt
+well-lies t i room W =
+    record {
+      room = room;
+      thread = let e : i * rowSize + 0 ≡ i * rowSize = omega arith in sym (at 0 (omega arith) ∙ ap (λ (q : ℕ). getD t q 0) e);
+      wanted = sym (at 1 (omega arith));
+      size = size;
+      held = held;
+      fair = W .fair;
+    }
   where
-    room : i * rowSize + rowSize ≤ length t
-    room = row-room n t i (given-room n t g) h
-
-    W : RowWell t i
-    W = given-row n t g i h
-
     -- the words of the row by those of the table
     at : (k : ℕ) → k < rowSize → getD (part (i * rowSize) rowSize t) k 0 ≡ getD t (i * rowSize + k) 0
     at k l = part-at t (i * rowSize) rowSize k l
@@ -310,13 +311,5 @@ given-lies n t g i h = subst (Lies t i) (sym (deps-at n t i h)) lies
         let e : i * rowSize + 3 + k ≡ i * rowSize + (3 + k) = omega arith in
         sym (getD-take (getD ws 2 0) (part 3 7 ws) k 0 s ∙ part-at ws 3 7 k m ∙ at (3 + k) (omega arith) ∙ ap (λ (q : ℕ). getD t q 0) (sym e))
 
-    lies : Lies t i (depAt t i)
-    lies =
-        record {
-          room = room;
-          thread = let e : i * rowSize + 0 ≡ i * rowSize = omega arith in sym (at 0 (omega arith) ∙ ap (λ (q : ℕ). getD t q 0) e);
-          wanted = sym (at 1 (omega arith));
-          size = size;
-          held = held;
-          fair = W .fair;
-        }
+pub given-lies : (n : ℕ) (t : List ℕ) → given n t ≡ true → (i : ℕ) → i < n → Lies t i (depAt t i)
+given-lies n t g i h = well-lies t i (row-room n t i (given-room n t g) h) (given-row n t g i h)

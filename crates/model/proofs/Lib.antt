@@ -16,3 +16,5 @@ pub mod Listed
 pub mod Walks
 pub mod After
 pub mod NothingLost
+pub mod Table
+pub mod Marks

@@ -8,6 +8,7 @@ pub mod Reading
 pub mod Given
 pub mod Tied
 pub mod Kept
+pub mod Marking
 pub mod Runs
 pub mod Answer
 pub mod After

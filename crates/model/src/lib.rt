@@ -20,3 +20,9 @@ pub struct Reading {
     pub place: usize,
     pub rows: usize,
 }
+
+// Marking's answer: the number of a refusal or 0, and the place, which is 0.
+pub struct Marking {
+    pub number: u16,
+    pub place: usize,
+}
