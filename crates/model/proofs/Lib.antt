@@ -1,6 +1,7 @@
 pub mod Refusals
 pub mod Holds
 pub mod Rows
+pub mod Table
 pub mod Passing
 pub mod Sound
 pub mod Traces
