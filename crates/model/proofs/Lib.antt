@@ -1,6 +1,7 @@
 pub mod Refusals
 pub mod Holds
 pub mod Rows
+pub mod Table
 pub mod Passing
 pub mod Sound
 pub mod Traces
@@ -16,5 +17,4 @@ pub mod Listed
 pub mod Walks
 pub mod After
 pub mod NothingLost
-pub mod Table
 pub mod Marks

@@ -1,18 +1,15 @@
--- The key of a dependency, as the code makes it of a hold, and as it tells dependencies apart.
+-- The key of a dependency, as the code makes it of a hold.
 --     seven            seven places by their entries
 --     padded-seven     of eight places the first seven
---     key-length       a key has ten words
---     key-once         two dependencies with one key are one
 use Prim.Native.Nat.{ℕ, zero, suc, _+_, _-_, _≤_, _<_}
 use native.Mathlib.Omega.{arith}
 use native.Mathlib.Nat.{le-of-suc-le-suc}
-use mathlib.Core.Path.{_≡_, refl, sym, ap, ap₂, _∙_}
+use mathlib.Core.Path.{_≡_, refl, ap, _∙_}
 use mathlib.Core.List.{List, [], _∷_, _++_}
-use lib.ListN.{length, getD, take, drop, replicate, length-append, length-replicate}
-use lib.Seq.{take-append-add, take-append-seam}
+use lib.ListN.{length, getD, take, replicate}
+use lib.Seq.{take-append-add}
 use Rattle.model.specs.Holds.{mostHeld}
-use Rattle.model.specs.Rows.{Dependency}
-use Rattle.model.specs.Table.{unused, padded, keyWords}
+use Rattle.model.specs.Table.{unused, padded}
 
 pub seven : (xs : List ℕ) → 7 < length xs → getD xs 0 0 ∷ getD xs 1 0 ∷ getD xs 2 0 ∷ getD xs 3 0 ∷ getD xs 4 0 ∷ getD xs 5 0 ∷ getD xs 6 0 ∷ [] ≡ take 7 xs
 seven [] h = absurd (let z : ⊥ = omega arith in z)
@@ -35,15 +32,3 @@ padded-seven xs h =
     let e : 7 ≡ length xs + (7 - length xs) = omega arith in
     ap (λ (n : ℕ). take n (padded 8 xs)) e ∙ take-append-add xs (replicate (8 - length xs) unused) (7 - length xs)
     ∙ ap (λ (l : List ℕ). xs ++ l) (take-replicate (7 - length xs) (8 - length xs) unused (omega arith))
-
-pub key-length : (d : Dependency) → length (d .held) ≤ 7 → length (keyWords d) ≡ 10
-key-length d h = let e : length (padded 7 (d .held)) ≡ 7 = simp (length-append, length-replicate) (omega arith) in omega arith
-
-pub key-once : (d e : Dependency) → keyWords d ≡ keyWords e → d ≡ e
-key-once d e q =
-    let t : d .thread ≡ e .thread = ap (λ (l : List ℕ). getD l 0 0) q in
-    let w : d .wanted ≡ e .wanted = ap (λ (l : List ℕ). getD l 1 0) q in
-    let n : length (d .held) ≡ length (e .held) = ap (λ (l : List ℕ). getD l 2 0) q in
-    let p : padded 7 (d .held) ≡ padded 7 (e .held) = ap (drop 3) q in
-    let h : d .held ≡ e .held = sym (take-append-seam (d .held) (replicate (7 - length (d .held)) unused)) ∙ ap₂ take n p ∙ take-append-seam (e .held) (replicate (7 - length (e .held)) unused) in
-    λ i. record { thread = t i; wanted = w i; held = h i }

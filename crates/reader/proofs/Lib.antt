@@ -1,6 +1,5 @@
 pub mod Keys
 pub mod Events
-pub mod Index
 pub mod Tables
 pub mod Noting
 pub mod Owners

@@ -31,9 +31,10 @@ use Rattle.model.proofs.Sound.{Sound, sound-start, sound-after}
 use Rattle.model.proofs.Traces.{Way, on, stop, way, reads-end, reads-on, reads-stop}
 use Rattle.holds.specs.declared.Hold.{Hold}
 use Rattle.holds.specs.Hold.{laid}
-use Rattle.reader.specs.Working.{Linked, Ready, Tabled, Owned, Lies, stepped, Did}
+use Rattle.index.specs.Index.{buckets, Linked}
+use Rattle.index.proofs.Index.{linked-start}
+use Rattle.reader.specs.Working.{Ready, Tabled, Owned, Lies, stepped, Did}
 use Rattle.reader.proofs.Events.{events-more, events-none}
-use Rattle.reader.proofs.Index.{linked-start}
 use Rattle.reader.proofs.Owners.{owned-start}
 use Rattle.reader.proofs.Tables.{split, split-in, times-there}
 
@@ -43,8 +44,8 @@ pub record Runs (n : Limits) (bs t₀ ws : List ℕ) (holds : List Hold) (owner 
   pub linked : Linked ws rows head next
   pub each : (d : Hold) (u : ℕ) → u < 32 → getD holds u d ≡ laid (state .held u)
   pub many : length holds ≡ 32
-  pub heads : length head ≡ 1024
-  pub nexts : length next ≡ 1024
+  pub heads : length head ≡ buckets
+  pub nexts : length next ≡ mostRows
   pub place : at ≡ eventSize * p
   pub within : at ≤ length bs
   pub left : (count : ℕ) → length bs ≡ eventSize * count → trace n (eventsFrom count bs) ≡ reads n state p (eventsFrom (count - p) (drop at bs))
@@ -54,7 +55,7 @@ pub held-at : (n : Limits) (bs t₀ ws : List ℕ) (holds : List Hold) (owner he
     (d : Hold) (u t : ℕ) → u ≡ t → t < 32 → getD holds u d ≡ laid (R .state .held t)
 held-at n bs t₀ ws holds owner head next rows p at R d u t e l = rw e (R .each d t l)
 
-pub runs-start : (n : Limits) (bs t₀ : List ℕ) (none : Hold) → none ≡ laid nothing → Runs n bs t₀ t₀ (replicate 32 none) (replicate 256 0) (replicate 1024 0) (replicate 1024 0) 0 0 0
+pub runs-start : (n : Limits) (bs t₀ : List ℕ) (none : Hold) → none ≡ laid nothing → Runs n bs t₀ t₀ (replicate 32 none) (replicate 256 0) (replicate buckets 0) (replicate mostRows 0) 0 0 0
 runs-start n bs t₀ none e =
     record {
       state = start;
@@ -120,7 +121,7 @@ module _ (n : Limits) (bs t₀ ws : List ℕ) (holds : List Hold) (owner head ne
             rw (next-one count c, reads-stop n (R .state) p e (eventsFrom (count - (p + 1)) (drop (at + eventSize) bs)) r v)
             (told-is (record { verdict = refuses r; place = p; state = R .state }) t₀ ws′ answer p rows′ (D .number ∙ ap number v) refl (rw (v, stepped) at (D .table)))
 
-    pub runs-on : answer ≡ 0 → Linked ws′ rows′ head′ next′ → length head′ ≡ 1024 → length next′ ≡ 1024 → Runs n bs t₀ ws′ (set holds (e .thread % 32) left) owner′ head′ next′ rows′ (p + 1) (at + eventSize)
+    pub runs-on : answer ≡ 0 → Linked ws′ rows′ head′ next′ → length head′ ≡ buckets → length next′ ≡ mostRows → Runs n bs t₀ ws′ (set holds (e .thread % 32) left) owner′ head′ next′ rows′ (p + 1) (at + eventSize)
     runs-on z k hs ns =
         let v : refusal n (R .state) e ≡ passes = number-passes (refusal n (R .state) e) (sym (D .number) ∙ z) in
         let t : e .thread < n .threads = passed n (R .state) e v .thread in

@@ -25,8 +25,8 @@ use Rattle.laws.proofs.Memory.{part-first, part-after, over-more}
 use Rattle.model.specs.Rows.{Dependency, Row, known, newRow, again, counted, arose, deps}
 use Rattle.model.specs.Table.{rowSize, keyWords, rowWords, tableWords}
 use Rattle.model.proofs.Rows.{tells-same-dep, tells-known, what-counted, counted-none}
-use Rattle.reader.specs.Working.{keySize, keyAt}
-use Rattle.reader.proofs.Keys.{key-length, key-once}
+use Rattle.model.proofs.Table.{key-length, key-once}
+use Rattle.index.specs.Index.{keySize, keyAt}
 
 abbrev pub Short : List Row → Type 0
 Short rs = (r : Row) → In r rs → length (r .what .held) ≤ 7

@@ -1,9 +1,4 @@
 -- How the working memory of reading stands for the meaning of the trace. The private functions alone speak of it; no public contract does.
---     keySize              how many words a key has
---     keyAt ws r           the words of row r by which its dependency is told apart
---     bucketOf k           the bucket of a key; inBucket ws b r: the test that row r is in bucket b
---     lastBelow f n        one more than the last number below n that passes f, or 0 where there is none
---     Linked ws n head next    the index of n rows: the last row of each bucket, and for each row the one before it in its bucket
 --     Ready rows ws head next  what the code relies on, whatever the rows are: sizes, and sums that do not wrap
 --     Tabled rs t₀ rows ws     the rows rs lie in the table, which held t₀ before the call
 --     Keyed d rs           d and the rows can be told apart by their keys
@@ -14,15 +9,14 @@
 --     Did n s p e ..       what a step answers, and what it leaves
 --     unnamedOf n e        7 for a thread past the limits, then 8 for a lock, otherwise 0
 --     nothingRead k        reading's answer with number k where no event was looked at
-use Prim.Native.Nat.{ℕ, zero, suc, _+_, _*_, _%_, _≤_, _<_}
+use Prim.Native.Nat.{ℕ, suc, _+_, _*_, _≤_, _<_}
 use mathlib.Core.Path.{_≡_}
-use mathlib.Core.Bool.{Bool}
 use mathlib.Core.List.{List}
 use lib.ListN.{length, getD}
 use lib.Dec.{eqb, leb}
 use Rattle.laws.specs.Tests.{if_then_else_}
 use Rattle.laws.specs.Lists.{In, Pairwise}
-use Rattle.laws.specs.Memory.{part, over}
+use Rattle.laws.specs.Memory.{over}
 use Rattle.model.specs.declared.Event.{Event}
 use Rattle.model.specs.declared.Limits.{Limits}
 use Rattle.model.specs.declared.Reading.{Reading}
@@ -34,35 +28,16 @@ use Rattle.model.specs.Trace.{State, refusal, after}
 use Rattle.model.proofs.Sound.{Sound}
 use Rattle.holds.specs.declared.Hold.{Hold}
 use Rattle.holds.specs.Hold.{laid}
+use Rattle.index.specs.Index.{buckets, Linked}
 
 -- ---- rows
-
-abbrev pub keySize : ℕ
-keySize = 10
-
-abbrev pub keyAt : List ℕ → ℕ → List ℕ
-keyAt ws r = part (r * rowSize) keySize ws
-
-unfoldable pub bucketOf : List ℕ → ℕ
-bucketOf k = (getD k 0 0 * 331 + getD k 1 0 * 67 + (getD k 3 0 * 17 + getD k 4 0 * 29 + getD k 5 0 * 41 + getD k 6 0 * 53)) % 1024
-
-abbrev pub inBucket : List ℕ → ℕ → ℕ → Bool
-inBucket ws b r = eqb (bucketOf (keyAt ws r)) b
-
-unfoldable pub lastBelow : (ℕ → Bool) → ℕ → ℕ
-lastBelow f zero = 0
-lastBelow f (suc n) = if f n then suc n else lastBelow f n
-
-pub record Linked (ws : List ℕ) (n : ℕ) (head next : List ℕ) : Type 0 where
-  pub first : (b : ℕ) → b < 1024 → getD head b 0 ≡ lastBelow (inBucket ws b) n
-  pub before : (r : ℕ) → r < n → getD next r 0 ≡ lastBelow (inBucket ws (bucketOf (keyAt ws r))) r
 
 pub record Ready (rows : ℕ) (ws head next : List ℕ) : Type 0 where
   pub few : rows ≤ mostRows
   pub room : tableRoom ≤ length ws
   pub times : (r : ℕ) → r < rows → getD ws (r * rowSize + 11) 0 < 65535
-  pub heads : length head ≡ 1024
-  pub nexts : length next ≡ 1024
+  pub heads : length head ≡ buckets
+  pub nexts : length next ≡ mostRows
   pub linked : Linked ws rows head next
 
 pub record Tabled (rs : List Row) (t₀ : List ℕ) (rows : ℕ) (ws : List ℕ) : Type 0 where

@@ -1,227 +1,144 @@
--- The loop goes through the key's bucket; each way out is one law of `Noting`.
+-- Each way out is one law of `Noting`.
 use native.Mathlib.Omega.{arith}
 use borrow.Author.Needs.{needs}
-use Prim.Native.Nat.{ℕ, _+_, _*_, _-_, _≤_, _<_}
-use mathlib.Core.Path.{_≡_, refl, sym, ap, _∙_}
-use mathlib.Core.List.{List, [], _∷_, _++_}
-use lib.Seq.{sets}
-use mathlib.Core.Bool.{true, false}
-use lib.ListN.{length, getD, length-set}
-use Rattle.laws.specs.Lists.{same}
-use Rattle.reader.specs.Working.{keyAt}
-use Rattle.reader.proofs.Noting.{Seeking, seek-start, seek-next, links-known, links-new, note-known, note-full, note-new}
+use Prim.Native.Nat.{_-_, _≤_, _<_}
+use mathlib.Core.Path.{_≡_}
+use lib.ListN.{length}
+use Rattle.index.specs.Index.{keyAt}
+use Rattle.reader.proofs.Noting.{links-known, links-new, note-known, note-full, note-new}
 use Rattle.reader.proofs.table.note.Statement.{statement}
 use Rattle.reader.proofs.table.note.Tie as tie
 
-abbrev Inv-loop : tie.InvT-loop
-Inv-loop table₀ head next rows key place b k₀ table k = (table ≡ table₀) × Seeking table₀ key rows b k × (length key ≡ 10)
+sized : (c : tie.After-key) → length (c .before .before .before .before .before .args .t5) ≡ 10
+sized c = search needs
 
-abbrev μ-loop : tie.MeasureT-loop
-μ-loop table₀ head next rows key place b k₀ table k = k
+-- the row that was found
+known : (c : tie.Then1) →
+    let a = c .before .before .before .before .before .before .before .before .before .args in
+    (c .before .find .result - 1 < a .rows) × (keyAt (a .table .now) (c .before .find .result - 1) ≡ a .t5)
+known c = c .before .find .ensures .some (c .before .find .result - 1) (omega (arith, c .if1 .taken))
 
--- the row that is looked at, and the table
-inside : (c : tie.In-loop Inv-loop μ-loop) → (0 < c .before .loop .k) × (c .before .loop .k ≤ 1024) × (12288 ≤ length (c .before .loop .table))
-inside c =
-    let l = c .before .loop in
-    let s = c .before .before .before .before .before .before .before .before in
-    (omega (arith, c .loop-test .taken), omega (arith, l .inv .1 .within, s .pre .few), omega (arith, ap length (l .inv .0), s .pre .room))
-
--- the next row of the bucket, after one that has not the key
-seeking : (c : tie.Else1 Inv-loop μ-loop) →
-    let l = c .before .before .before .before .loop in
-    let b = c .before .before .before .before .before .before .before in
-    let a = b .before .before .before .before .args in
-    (getD (a .next .now) (l .k - 1) 0 < l .k) × Seeking (a .table .now) (a .key) (a .rows) (b .bucket .result) (getD (a .next .now) (l .k - 1) 0)
-seeking c =
-    let l = c .before .before .before .before .loop in
-    let b = c .before .before .before .before .before .before .before in
-    let s = b .before .before .before .before in
-    let a = s .args in
-    let q : same (keyAt (a .table .now) (l .k - 1)) (a .key) ≡ false = rw (l .inv .0) at (sym (c .before .same-at .ensures) ∙ c .if1 .left) in
-    seek-next (a .table .now) (a .key) (a .head .now) (a .next .now) (a .rows) (b .bucket .result) (b .bucket .ensures .0) (s .pre .linked) (l .k) (inside (c .before .before .before) .0) (l .inv .1) q
-
-bucket-requires : tie.Need-bucket-requires Inv-loop μ-loop
-bucket-requires c κs = search needs
-
-mul-wide : tie.Need-mul-wide Inv-loop μ-loop
-mul-wide c = search needs
-
-slice-read-wide : tie.Need-slice-read-wide Inv-loop μ-loop
-slice-read-wide c =
-    let s = c .before .before .before .before .before in
-    omega (arith, s .pre .heads, c .before .bucket .ensures .1)
-
-wide-requires : tie.Need-wide-requires Inv-loop μ-loop
-wide-requires c κs = search needs
-
-loop-holds : tie.Need-loop-holds Inv-loop μ-loop
-loop-holds c =
-    let b = c .before .before in
-    let s = b .before .before .before .before in
-    let a = s .args in
-    (refl, seek-start (a .table .now) (a .key) (a .head .now) (a .next .now) (a .rows) (b .bucket .result) (b .bucket .ensures .0) (s .pre .linked) (c .wide .result) (b .bucket .ensures .1) (c .wide .ensures .0), search needs)
-
-sub-r : tie.Need-sub-r Inv-loop μ-loop
-sub-r c = omega (arith, inside c)
-
-mul-same-at : tie.Need-mul-same-at Inv-loop μ-loop
-mul-same-at c = omega (arith, inside (c .before))
-
-same-at-requires : tie.Need-same-at-requires Inv-loop μ-loop
-same-at-requires c κs = omega (arith, inside (c .before))
-
-mul-w : tie.Need-mul-w Inv-loop μ-loop
-mul-w c = omega (arith, inside (c .before .before .before))
-
-add-w : tie.Need-add-w Inv-loop μ-loop
-add-w c = omega (arith, inside (c .before .before .before))
-
-mul-table : tie.Need-mul-table Inv-loop μ-loop
-mul-table c = omega (arith, inside (c .before .before .before))
-
-slice-read-table : tie.Need-slice-read-table Inv-loop μ-loop
-slice-read-table c = omega (arith, inside (c .before .before .before .before))
-
-add-table : tie.Need-add-table Inv-loop μ-loop
-add-table c =
-    let i = c .before .before .before .before in
-    let l = i .before .loop in
-    let s = i .before .before .before .before .before .before .before .before in
-    rw (l .inv .0) (omega (arith, s .pre .times (l .k - 1) (omega (arith, inside i, l .inv .1 .within))))
-
-mul-table-2 : tie.Need-mul-table-2 Inv-loop μ-loop
-mul-table-2 c = omega (arith, inside (c .before .before .before .before))
-
-slice-write-table : tie.Need-slice-write-table Inv-loop μ-loop
-slice-write-table c = omega (arith, inside (c .before .before .before .before))
-
-same-length : tie.Need-same-length Inv-loop μ-loop
-same-length c = simp length-set (ap length (c .before .before .before .before .before .loop .inv .0))
-
-returns : tie.Need-returns Inv-loop μ-loop
-returns c =
-    let i = c .before .before .before .before in
-    let l = i .before .loop in
-    let s = i .before .before .before .before .before .before .before .before in
-    let a = s .args in
-    let h : l .k - 1 < a .rows = omega (arith, inside i, l .inv .1 .within) in
-    let q : same (keyAt (a .table .now) (l .k - 1)) (a .key) ≡ true = rw (l .inv .0) at (sym (c .before .before .same-at .ensures) ∙ c .before .if1 .taken) in
-    rw (l .inv .0) (
-      links-known (a .table .now) (a .head .now) (a .next .now) (a .rows) (l .k - 1) _ (s .pre .linked),
-      λ rs t₀ d e K T. note-known (a .table .now) (a .key) (a .rows) (a .place) rs t₀ d e K T (l .k - 1) h q,
-    )
-
-mul-wide-2 : tie.Need-mul-wide-2 Inv-loop μ-loop
-mul-wide-2 c = omega (arith, inside (c .before .before .before))
-
-slice-read-wide-2 : tie.Need-slice-read-wide-2 Inv-loop μ-loop
-slice-read-wide-2 c =
-    let i = c .before .before .before .before in
-    omega (arith, inside i, i .before .before .before .before .before .before .before .before .pre .nexts)
-
-wide-requires-2 : tie.Need-wide-requires-2 Inv-loop μ-loop
-wide-requires-2 c κs = search needs
-
-loop-less : tie.Need-loop-less Inv-loop μ-loop
-loop-less c = omega (arith, seeking (c .before .before) .0, c .wide2 .ensures .0)
-
-loop-again : tie.Need-loop-again Inv-loop μ-loop
-loop-again c =
-    let l = c .before .before .before .before .before .before .loop in
-    (l .inv .0, rw (c .wide2 .ensures .0) (seeking (c .before .before) .1), l .inv .2)
-
-same-length-2 : tie.Need-same-length-2 Inv-loop μ-loop
-same-length-2 c = ap length (c .before .before .loop .inv .0)
-
-returns-2 : tie.Need-returns-2 Inv-loop μ-loop
-returns-2 c =
-    let l = c .before .before .loop in
+-- it lies in the table
+inside : (c : tie.Then1) →
     let s = c .before .before .before .before .before .before .before .before .before in
+    (c .before .find .result - 1 < 1024) × (12288 ≤ length (s .args .table .now))
+inside c =
+    let s = c .before .before .before .before .before .before .before .before .before in
+    (omega (arith, known c .0, s .pre .few), s .pre .room)
+
+slice-aggregate-find : tie.Need-slice-aggregate-find
+slice-aggregate-find c = search needs
+
+find-requires : tie.Need-find-requires
+find-requires c κs = search needs
+
+sub-w : tie.Need-sub-w
+sub-w c = search needs
+
+mul-w : tie.Need-mul-w
+mul-w c = omega (arith, inside c)
+
+add-w : tie.Need-add-w
+add-w c = omega (arith, inside c)
+
+mul-table : tie.Need-mul-table
+mul-table c = omega (arith, inside c)
+
+slice-read-table : tie.Need-slice-read-table
+slice-read-table c = omega (arith, inside (c .before))
+
+add-table : tie.Need-add-table
+add-table c =
+    let i = c .before in
+    omega (arith, i .before .before .before .before .before .before .before .before .before .pre .times (i .before .find .result - 1) (known i .0))
+
+mul-table-2 : tie.Need-mul-table-2
+mul-table-2 c = omega (arith, inside (c .before))
+
+slice-write-table : tie.Need-slice-write-table
+slice-write-table c = omega (arith, inside (c .before))
+
+same-length : tie.Need-same-length
+same-length c = search needs
+
+same-length-2 : tie.Need-same-length-2
+same-length-2 c = search needs
+
+same-length-3 : tie.Need-same-length-3
+same-length-3 c = search needs
+
+returns : tie.Need-returns
+returns c =
+    let i = c .before in
+    let s = i .before .before .before .before .before .before .before .before .before in
     let a = s .args in
-    let z : l .k ≡ 0 = c .before .loop-test .left in
-    rw (l .inv .0) (
-      s .pre .linked,
-      λ rs t₀ d e K T. note-full (a .table .now) (a .key) (a .rows) (a .place) rs t₀ d e K T (λ r. l .inv .1 .unseen r (omega arith)) (c .if2 .taken),
+    let r = i .before .find .result - 1 in (
+      links-known (a .table .now) (a .head .now) (a .next .now) (a .rows) r _ (s .pre .linked),
+      λ rs t₀ d e K T. note-known (a .table .now) (a .t5) (a .rows) (a .place) rs t₀ d e K T r (known i .0) (known i .1),
     )
 
-mul-put : tie.Need-mul-put Inv-loop μ-loop
-mul-put c = omega (arith, c .before .before .before .before .before .before .before .before .before .before .pre .few)
+same-length-4 : tie.Need-same-length-4
+same-length-4 c = search needs
 
-put-requires : tie.Need-put-requires Inv-loop μ-loop
-put-requires c κs =
-    let s = c .before .before .before .before .before .before .before .before .before .before in
-    omega (arith, s .pre .room, ap length (c .before .before .before .loop .inv .0), c .before .if2 .left)
+same-length-5 : tie.Need-same-length-5
+same-length-5 c = search needs
 
-mul-next : tie.Need-mul-next Inv-loop μ-loop
-mul-next c = search needs
+same-length-6 : tie.Need-same-length-6
+same-length-6 c = search needs
 
-slice-read-next : tie.Need-slice-read-next Inv-loop μ-loop
-slice-read-next c =
-    let s = c .before .before .before .before .before .before .before .before .before .before in
-    omega (arith, s .bucket .ensures .1, s .before .before .before .before .pre .heads)
+returns-2 : tie.Need-returns-2
+returns-2 c =
+    let f = c .before .before in
+    let s = f .before .before .before .before .before .before .before .before in
+    let a = s .args in (
+      s .pre .linked,
+      λ rs t₀ d e K T. note-full (a .table .now) (a .t5) (a .rows) (a .place) rs t₀ d e K T (λ q. f .find .ensures .none q (omega (arith, c .before .if1 .left))) (c .if2 .taken),
+    )
 
-mul-next-2 : tie.Need-mul-next-2 Inv-loop μ-loop
-mul-next-2 c = search needs
+mul-put : tie.Need-mul-put
+mul-put c = search needs
 
-slice-write-next : tie.Need-slice-write-next Inv-loop μ-loop
-slice-write-next c =
-    let e = c .before .before .before .before .before in
-    omega (arith, e .if2 .left, e .before .before .before .before .before .before .before .before .before .pre .nexts)
+put-requires : tie.Need-put-requires
+put-requires c κs = search needs
 
-add-head : tie.Need-add-head Inv-loop μ-loop
-add-head c = omega (arith, c .before .before .before .before .before .if2 .left)
+slice-aggregate-link : tie.Need-slice-aggregate-link
+slice-aggregate-link c = search needs
 
-cast-head : tie.Need-cast-head Inv-loop μ-loop
-cast-head c = omega (arith, c .before .before .before .before .before .if2 .left)
+link-requires : tie.Need-link-requires
+link-requires c κs = search needs
 
-mul-head : tie.Need-mul-head Inv-loop μ-loop
-mul-head c = search needs
+add-t28 : tie.Need-add-t28
+add-t28 c = search needs
 
-slice-write-head : tie.Need-slice-write-head Inv-loop μ-loop
-slice-write-head c =
-    let s = c .before .before .before .before .before .before .before .before .before .before in
-    omega (arith, s .bucket .ensures .1, s .before .before .before .before .pre .heads)
+same-length-7 : tie.Need-same-length-7
+same-length-7 c = search needs
 
-add-t11 : tie.Need-add-t11 Inv-loop μ-loop
-add-t11 c = omega (arith, c .before .before .before .before .before .if2 .left)
+same-length-8 : tie.Need-same-length-8
+same-length-8 c = search needs
 
-same-length-3 : tie.Need-same-length-3 Inv-loop μ-loop
-same-length-3 c = c .before .before .before .put .kept .0 ∙ ap length (c .before .before .before .before .before .before .before .loop .inv .0)
+same-length-9 : tie.Need-same-length-9
+same-length-9 c = search needs
 
-same-length-4 : tie.Need-same-length-4 Inv-loop μ-loop
-same-length-4 c = simp length-set
-
-same-length-5 : tie.Need-same-length-5 Inv-loop μ-loop
-same-length-5 c = simp length-set
-
-returns-3 : tie.Need-returns-3 Inv-loop μ-loop
+returns-3 : tie.Need-returns-3
 returns-3 c =
-    let e = c .before .before .before .before .before in
-    let l = e .before .before .loop in
-    let b = e .before .before .before .before .before in
-    let s = b .before .before .before .before in
+    let k = c .before .before .before .before in
+    let p = k .before .before .before .before .before .before in
+    let e = p .before .before in
+    let f = e .before .before in
+    let s = f .before .before .before .before .before .before .before .before in
     let a = s .args in
-    let z : l .k ≡ 0 = e .before .loop-test .left in
-    let p = c .before .before .before .put .ensures ∙ ap (λ (w : List ℕ). sets w (a .rows * 12) (a .key ++ a .place ∷ 1 ∷ [])) (l .inv .0) in
-    rw p (
-      links-new (a .table .now) (a .head .now) (a .next .now) (a .key) (a .rows) (a .place) (b .bucket .result) (s .pre .linked) (s .pre .heads) (s .pre .nexts) (l .inv .2) (e .if2 .left) (s .pre .room) (b .bucket .ensures .0) (b .bucket .ensures .1),
-      λ rs t₀ d q K T. note-new (a .table .now) (a .key) (a .rows) (a .place) rs t₀ d q K T (λ r. l .inv .1 .unseen r (omega arith)) (e .if2 .left) (s .pre .room),
+    rw (p .put .ensures, k .link .ensures .0, k .link .ensures .1) (
+      links-new (a .table .now) (a .head .now) (a .next .now) (a .t5) (a .rows) (a .place) (s .pre .linked) (s .pre .heads) (s .pre .nexts) (sized (f .before .before .before)) (e .if2 .left) (s .pre .room),
+      λ rs t₀ d q K T. note-new (a .table .now) (a .t5) (a .rows) (a .place) rs t₀ d q K T (λ r. f .find .ensures .none r (omega (arith, e .before .if1 .left))) (e .if2 .left) (s .pre .room),
     )
 
 pub note-spec : {M : Type 1} → statement M
 note-spec =
     tie.close
     (tie.spec
-    Inv-loop
-    μ-loop
-    bucket-requires
-    mul-wide
-    slice-read-wide
-    wide-requires
-    loop-holds
-    sub-r
-    mul-same-at
-    same-at-requires
+    slice-aggregate-find
+    find-requires
+    sub-w
     mul-w
     add-w
     mul-table
@@ -230,26 +147,19 @@ note-spec =
     mul-table-2
     slice-write-table
     same-length
-    returns
-    mul-wide-2
-    slice-read-wide-2
-    wide-requires-2
-    loop-less
-    loop-again
     same-length-2
+    same-length-3
+    returns
+    same-length-4
+    same-length-5
+    same-length-6
     returns-2
     mul-put
     put-requires
-    mul-next
-    slice-read-next
-    mul-next-2
-    slice-write-next
-    add-head
-    cast-head
-    mul-head
-    slice-write-head
-    add-t11
-    same-length-3
-    same-length-4
-    same-length-5
+    slice-aggregate-link
+    link-requires
+    add-t28
+    same-length-7
+    same-length-8
+    same-length-9
     returns-3)

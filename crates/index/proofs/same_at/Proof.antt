@@ -7,8 +7,8 @@ use lib.ListN.{length, drop}
 use Rattle.laws.specs.Lists.{same}
 use Rattle.laws.specs.Memory.{part}
 use Rattle.laws.proofs.Memory.{same-on, same-differ, same-done, part-length, part-at}
-use Rattle.reader.proofs.table.same_at.Statement.{statement}
-use Rattle.reader.proofs.table.same_at.Tie as tie
+use Rattle.index.proofs.same_at.Statement.{statement}
+use Rattle.index.proofs.same_at.Tie as tie
 
 abbrev Inv-loop : tie.InvT-loop
 Inv-loop table at key i₀ i = (i ≤ 10) × (length key ≡ 10) × (length (part at 10 table) ≡ 10) × (same (part at 10 table) key ≡ same (drop i (part at 10 table)) (drop i key))
@@ -31,15 +31,15 @@ shared-slice-read-if1 c = search needs
 mul-if1-2 : tie.Need-mul-if1-2 Inv-loop μ-loop
 mul-if1-2 c = search needs
 
-array-read-if1 : tie.Need-array-read-if1 Inv-loop μ-loop
-array-read-if1 c = search needs
+shared-slice-read-if1-2 : tie.Need-shared-slice-read-if1-2 Inv-loop μ-loop
+shared-slice-read-if1-2 c = search needs
 
 returns : tie.Need-returns Inv-loop μ-loop
 returns c =
-    let a = c .before .before .before .before .args in
-    let v = c .before .before .before .loop in
+    let a = c .before .before .before .before .before .args in
+    let v = c .before .before .before .before .loop in
     let g = part-at (a .table .now) (a .at) 10 (v .i) (omega arith) in
-    sym (v .inv .3 ∙ same-differ (part (a .at) 10 (a .table .now)) (a .t3) (v .i) (omega arith) (omega arith) (λ e. c .if1 .taken (sym g ∙ e)))
+    sym (v .inv .3 ∙ same-differ (part (a .at) 10 (a .table .now)) (a .key .now) (v .i) (omega arith) (omega arith) (λ e. c .if1 .taken (sym g ∙ e)))
 
 add-i : tie.Need-add-i Inv-loop μ-loop
 add-i c = search needs
@@ -49,16 +49,16 @@ loop-less c = search needs
 
 loop-again : tie.Need-loop-again Inv-loop μ-loop
 loop-again c =
-    let a = c .before .before .before .before .args in
-    let v = c .before .before .before .loop in
+    let a = c .before .before .before .before .before .args in
+    let v = c .before .before .before .before .loop in
     let g = part-at (a .table .now) (a .at) 10 (v .i) (omega arith) in
-    (omega arith, v .inv .1, v .inv .2, v .inv .3 ∙ same-on (part (a .at) 10 (a .table .now)) (a .t3) (v .i) (omega arith) (omega arith) (g ∙ c .if1 .left))
+    (omega arith, v .inv .1, v .inv .2, v .inv .3 ∙ same-on (part (a .at) 10 (a .table .now)) (a .key .now) (v .i) (omega arith) (omega arith) (g ∙ c .if1 .left))
 
 returns-2 : tie.Need-returns-2 Inv-loop μ-loop
 returns-2 c =
     let a = c .before .before .args in
     let v = c .before .loop in
-    sym (v .inv .3 ∙ same-done (part (a .at) 10 (a .table .now)) (a .t3) (v .i) (omega arith) (omega arith))
+    sym (v .inv .3 ∙ same-done (part (a .at) 10 (a .table .now)) (a .key .now) (v .i) (omega arith) (omega arith))
 
 pub same-at-spec : {M : Type 1} → statement M
 same-at-spec =
@@ -71,7 +71,7 @@ same-at-spec =
     mul-if1
     shared-slice-read-if1
     mul-if1-2
-    array-read-if1
+    shared-slice-read-if1-2
     returns
     add-i
     loop-less

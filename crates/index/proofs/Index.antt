@@ -1,9 +1,10 @@
 -- The index of rows by buckets of keys.
 --     last-..          the last number below n that passes
+--     bucket-below     a key's bucket is one of them
 --     linked-start     no rows yet
 --     linked-kept      the index stands while the keys do
 --     linked-new       with one row more
-use Prim.Native.Nat.{ℕ, zero, suc, _+_, _*_, _≤_, _<_}
+use Prim.Native.Nat.{ℕ, zero, suc, _+_, _≤_, _<_}
 use native.Mathlib.Omega.{arith}
 use native.Mathlib.Decide.{ℕ-discrete}
 use mathlib.Core.Path.{_≡_, refl, sym, ap, _∙_}
@@ -14,9 +15,9 @@ use borrow.Author.Tests.{eq-eqb, ne-eqb}
 use lib.Dec.{eqb}
 use lib.ListN.{length, getD, set, replicate, getD-replicate}
 use lib.Seq.{getD-set-same, getD-set-other}
-use Rattle.laws.specs.Tests.{if_then_else_}
-use Rattle.laws.proofs.Tests.{either, never}
-use Rattle.reader.specs.Working.{keyAt, bucketOf, inBucket, lastBelow, Linked}
+use Rattle.laws.proofs.Tests.{either}
+use Rattle.model.specs.Rows.{mostRows}
+use Rattle.index.specs.Index.{keyAt, buckets, bucketOf, inBucket, lastBelow, Linked}
 
 module _ (f : ℕ → Bool) where
   last-here : (n : ℕ) → f n ≡ true → lastBelow f (suc n) ≡ suc n
@@ -63,9 +64,13 @@ last-same f g (suc n) h = go (either (f n)) (last-same f g n (λ r l. h r (omega
     go (inl e) ih = last-here f n e ∙ sym (last-here g n (sym here ∙ e))
     go (inr e) ih = last-on f n e ∙ ih ∙ sym (last-on g n (sym here ∙ e))
 
-pub linked-start : (ws : List ℕ) → Linked ws 0 (replicate 1024 0) (replicate 1024 0)
+pub bucket-below : (k : List ℕ) → bucketOf k < buckets
+unfolding bucketOf
+bucket-below k = omega arith
+
+pub linked-start : (ws : List ℕ) → Linked ws 0 (replicate buckets 0) (replicate mostRows 0)
 linked-start ws =
-    record { first = λ b l. getD-replicate 1024 b 0 0 l ∙ sym (last-zero (inBucket ws b)); before = λ r l. absurd (let z : ⊥ = omega arith in z) }
+    record { first = λ b l. getD-replicate buckets b 0 0 l ∙ sym (last-zero (inBucket ws b)); before = λ r l. absurd (let z : ⊥ = omega arith in z) }
 
 module _ (ws ws′ : List ℕ) (n : ℕ) (head next : List ℕ) (kept : (r : ℕ) → r < n → keyAt ws′ r ≡ keyAt ws r) (L : Linked ws n head next) where
   same-bucket : (b k : ℕ) → k ≤ n → lastBelow (inBucket ws b) k ≡ lastBelow (inBucket ws′ b) k
@@ -78,14 +83,17 @@ module _ (ws ws′ : List ℕ) (n : ℕ) (head next : List ℕ) (kept : (r : ℕ
         before = λ r l. L .before r l ∙ same-bucket (bucketOf (keyAt ws r)) r (omega arith) ∙ rw (kept r l);
       }
 
-  module _ (key : List ℕ) (here : keyAt ws′ n ≡ key) (heads : length head ≡ 1024) (nexts : length next ≡ 1024) (l : n < 1024) (m : bucketOf key < 1024) where
+  module _ (key : List ℕ) (here : keyAt ws′ n ≡ key) (heads : length head ≡ buckets) (nexts : length next ≡ mostRows) (l : n < mostRows) where
     pub linked-new : Linked ws′ (n + 1) (set head (bucketOf key) (n + 1)) (set next n (getD head (bucketOf key) 0))
     linked-new = record { first = λ b h. first b h (ℕ-discrete b (bucketOf key)); before = λ r h. before r h (ℕ-discrete r n) }
       where
         more : n + 1 ≡ suc n
         more = omega arith
 
-        first : (b : ℕ) → b < 1024 → Dec (b ≡ bucketOf key) → getD (set head (bucketOf key) (n + 1)) b 0 ≡ lastBelow (inBucket ws′ b) (n + 1)
+        m : bucketOf key < buckets
+        m = bucket-below key
+
+        first : (b : ℕ) → b < buckets → Dec (b ≡ bucketOf key) → getD (set head (bucketOf key) (n + 1)) b 0 ≡ lastBelow (inBucket ws′ b) (n + 1)
         first b h (yes e) =
             rw (e, more, getD-set-same head (bucketOf key) (suc n) 0 (omega arith)) (sym (last-here (inBucket ws′ (bucketOf key)) n (eq-eqb (bucketOf (keyAt ws′ n)) (bucketOf key) (ap bucketOf here))))
         first b h (no e) =
