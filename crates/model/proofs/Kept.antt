@@ -3,13 +3,14 @@
 --     settled-..       what is so after rounds: a tied set that was within stays within, and enough rounds leave a tied set
 --     K-largest        K ds is the largest tied set
 --     K-wanted         a lock of K ds is wanted by some row
+--     K-untied, K-only     a set with K within: what is not tied to it is not of K, and if it is tied it is K
 --     tells-kept       the test of a kept row
 --     in-kept, kept-in     what stands in keptRows ds; kept-rising: it rises
 use Prim.Native.Nat.{ℕ, zero, suc, _≤_, _<_}
 use native.Mathlib.Omega.{arith}
 use mathlib.Core.Path.{_≡_, refl, sym, ap, subst, _∙_}
 use mathlib.Core.Bool.{true}
-use mathlib.Core.Logic.{⊎-elim}
+use mathlib.Core.Logic.{⊎-elim, _↔_}
 use mathlib.Core.List.{List, [], _∷_}
 use lib.ListN.{length, length-map}
 use Rattle.laws.specs.Tests.{Tells}
@@ -97,6 +98,14 @@ module _ (ds : List Dependency) where
 
   pub K-wanted : (m : ℕ) → In m (K ds) → In m (wantedLocks ds)
   K-wanted m h = ties-wanted (λ k. In k (K ds)) m (K-largest .tied m h)
+
+  -- where all of K lies within S, a lock that is not tied to S is not of K
+  pub K-untied : (S : ℕ → Type 0) → ((k : ℕ) → In k (K ds) → S k) → (m : ℕ) → (Ties ds S m → ⊥) → In m (K ds) → ⊥
+  K-untied S sub m n h = n (ties-wider ds (λ k. In k (K ds)) S sub m (K-largest .tied m h))
+
+  -- and if S is tied, it has the locks of K
+  pub K-only : (S : ℕ → Type 0) → ((k : ℕ) → In k (K ds) → S k) → Tied ds S → (m : ℕ) → In m (K ds) ↔ S m
+  K-only S sub s m = (sub m, K-largest .every S s m)
 
   -- ---- the rows that it keeps
 
