@@ -109,7 +109,7 @@ fn row(text: &str) -> Row {
     }
 }
 
-fn numbers(text: &str) -> Vec<usize> {
+pub fn numbers(text: &str) -> Vec<usize> {
     text.split_whitespace().map(|w| w.parse().unwrap_or_else(|_| panic!("not a number: {w}"))).collect()
 }
 

@@ -1,34 +1,11 @@
 //! Generated cases: lawful traces, traces that go wrong at an event, damaged images, and bytes of no meaning.
 
 use crate::cases::Case;
+use crate::dice::Dice;
 use crate::image::{acquire, build, release, Event};
 
 /// `read_cases` takes no longer image.
 const LONGEST: usize = 65_600;
-
-/// xorshift64*: the same seed gives the same cases everywhere.
-struct Dice(u64);
-
-impl Dice {
-    fn roll(&mut self) -> u64 {
-        self.0 ^= self.0 >> 12;
-        self.0 ^= self.0 << 25;
-        self.0 ^= self.0 >> 27;
-        self.0.wrapping_mul(0x2545_F491_4F6C_DD1D)
-    }
-
-    fn below(&mut self, n: usize) -> usize {
-        ((self.roll() >> 33) as usize) % n
-    }
-
-    fn one_in(&mut self, n: usize) -> bool {
-        self.below(n) == 0
-    }
-
-    fn pick<T: Copy>(&mut self, all: &[T]) -> T {
-        all[self.below(all.len())]
-    }
-}
 
 /// Events of threads that take free locks and give theirs back, now and then a wrong one.
 fn events(dice: &mut Dice, threads: usize, locks: usize, count: usize, wrong: usize) -> Vec<Event> {
@@ -124,6 +101,6 @@ fn one(dice: &mut Dice) -> Case {
 }
 
 pub fn cases(seed: u64, count: usize) -> Vec<Case> {
-    let mut dice = Dice(seed.wrapping_mul(2).wrapping_add(1));
+    let mut dice = Dice::new(seed);
     (0..count).map(|_| one(&mut dice)).collect()
 }
