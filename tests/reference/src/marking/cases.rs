@@ -1,10 +1,12 @@
 //! The cases of a text file: a table, how it is lent, and what marking answers to it.
 //!
 //!     case NAME              begins a case
+//!     case NAME at R R ..    begins as many cases, NAME-R for each R: in its lines @ is R
 //!     like NAME              the table of an earlier case, to go on from
 //!     row T M {L ..} [P N]   a row: thread, wanted lock, H in the order of the text, position (0 if not said), occurrences (1 if not said)
-//!     wants T A LIST         for each lock of LIST a row of thread T that wants it and holds A
-//!     holds T A LIST         for each lock of LIST a row of thread T that wants A and holds it
+//!     put R T M {L ..} [P N] the same in place of row R
+//!     wants TS A LIST        for each thread of the list TS and each lock of LIST a row that wants it and holds A
+//!     holds TS A LIST        for each of them a row that wants A and holds it
 //!     path T U LIST          for each lock of LIST but the last a row that holds it and wants the next, of threads T and U by turns
 //!     word R P W             the word at place P of row R is W
 //!     words W W ..           words after the rows
@@ -29,10 +31,8 @@ struct Draft {
 }
 
 impl Draft {
-    fn row(&mut self, thread: usize, wanted: usize, held: &[usize], back: &[usize]) {
-        let held: Vec<u16> = held.iter().map(|m| *m as u16).collect();
-        let (first, times) = if let [p, n] = back { (*p as u16, *n as u16) } else { (0, 1) };
-        self.case.given.words.extend(row_words(thread as u16, wanted as u16, &held, first, times));
+    fn row(&mut self, thread: usize, wanted: usize, held: usize) {
+        self.case.given.words.extend(row_words(thread as u16, wanted as u16, &[held as u16], 0, 1));
         self.rows += 1;
     }
 
@@ -59,29 +59,38 @@ fn list(text: &str) -> Vec<usize> {
     all
 }
 
-/// N numbers, and the list after them.
-fn front(text: &str, count: usize) -> (Vec<usize>, Vec<usize>) {
-    let words: Vec<&str> = text.split_whitespace().collect();
-    (numbers(&words[..count].join(" ")), list(&words[count..].join(" ")))
-}
-
-fn row(draft: &mut Draft, text: &str) {
+fn row(text: &str) -> Vec<u16> {
+    let narrow = |text| numbers(text).into_iter().map(|n| n as u16).collect::<Vec<u16>>();
     let (before, rest) = text.split_once('{').expect("a row has {..}");
     let (held, after) = rest.split_once('}').expect("a row has {..}");
-    let before = numbers(before);
-    draft.row(before[0], before[1], &numbers(held), &numbers(after));
+    let before = narrow(before);
+    let after = if after.trim().is_empty() { vec![0, 1] } else { narrow(after) };
+    row_words(before[0], before[1], &narrow(held), after[0], after[1])
 }
 
-fn many_rows(draft: &mut Draft, word: &str, text: &str) {
-    let (n, locks) = front(text, 2);
-    match word {
-        "wants" => locks.iter().for_each(|m| draft.row(n[0], *m, &[n[1]], &[])),
-        "holds" => locks.iter().for_each(|m| draft.row(n[0], n[1], &[*m], &[])),
-        _ => {
-            for (i, pair) in locks.windows(2).enumerate() {
-                draft.row(n[i % 2], pair[1], &[pair[0]], &[]);
-            }
+/// Two words, and the list after them.
+fn front(text: &str) -> (&str, &str, Vec<usize>) {
+    let mut parts = text.splitn(3, ' ');
+    let mut part = || parts.next().unwrap_or_else(|| panic!("two words and a list: {text}"));
+    (part(), part(), list(part()))
+}
+
+fn rows_of_threads(draft: &mut Draft, word: &str, text: &str) {
+    let (threads, one, locks) = front(text);
+    let one = numbers(one)[0];
+    for thread in list(threads) {
+        for lock in &locks {
+            let (wanted, held) = if word == "wants" { (*lock, one) } else { (one, *lock) };
+            draft.row(thread, wanted, held);
         }
+    }
+}
+
+fn path(draft: &mut Draft, text: &str) {
+    let (t, u, locks) = front(text);
+    let threads = [numbers(t)[0], numbers(u)[0]];
+    for (i, pair) in locks.windows(2).enumerate() {
+        draft.row(threads[i % 2], pair[1], pair[0]);
     }
 }
 
@@ -92,8 +101,17 @@ fn line(draft: &mut Draft, done: &[Case], word: &str, rest: &str) {
             draft.case.given.words = earlier.given.words.clone();
             draft.rows = earlier.given.words.len() / 12;
         }
-        "row" => row(draft, rest),
-        "wants" | "holds" | "path" => many_rows(draft, word, rest),
+        "row" => {
+            draft.case.given.words.extend(row(rest));
+            draft.rows += 1;
+        }
+        "put" => {
+            let (number, rest) = rest.split_once(' ').expect("put R T M {..}");
+            let at = numbers(number)[0] * 12;
+            draft.case.given.words[at..at + 12].copy_from_slice(&row(rest));
+        }
+        "wants" | "holds" => rows_of_threads(draft, word, rest),
+        "path" => path(draft, rest),
         "word" => {
             let n = numbers(rest);
             draft.case.given.words[n[0] * 12 + n[1]] = n[2] as u16;
@@ -113,24 +131,37 @@ fn line(draft: &mut Draft, done: &[Case], word: &str, rest: &str) {
     }
 }
 
+fn build(name: String, lines: &[String], done: &[Case]) -> Case {
+    let mut draft = Draft::default();
+    draft.case.name = name;
+    draft.case.given.page = 2000;
+    for text in lines {
+        let (word, rest) = text.split_once(' ').unwrap_or((text, ""));
+        line(&mut draft, done, word, rest);
+    }
+    draft.finish()
+}
+
 pub fn parse(text: &str) -> Vec<Case> {
-    let mut done: Vec<Case> = vec![];
-    let mut draft: Option<Draft> = None;
-    for text_line in text.lines() {
-        let text_line = text_line.split('#').next().unwrap_or("").trim();
-        let (word, rest) = text_line.split_once(' ').unwrap_or((text_line, ""));
-        match (word, &mut draft) {
-            ("", _) => {}
-            ("case", _) => {
-                done.extend(draft.take().map(Draft::finish));
-                let mut case = Case { name: rest.to_string(), ..Case::default() };
-                case.given.page = 2000;
-                draft = Some(Draft { case, ..Draft::default() });
-            }
-            (_, Some(d)) => line(d, &done, word, rest),
-            (_, None) => panic!("before the first case: {text_line}"),
+    let lines = text.lines().map(|l| l.split('#').next().unwrap_or("").trim()).filter(|l| !l.is_empty());
+    let mut blocks: Vec<(&str, Vec<String>)> = vec![];
+    for text_line in lines {
+        match (text_line.strip_prefix("case "), blocks.last_mut()) {
+            (Some(name), _) => blocks.push((name, vec![])),
+            (None, Some(block)) => block.1.push(text_line.to_string()),
+            (None, None) => panic!("before the first case: {text_line}"),
         }
     }
-    done.extend(draft.map(Draft::finish));
+    let mut done = vec![];
+    for (head, lines) in blocks {
+        let Some((name, places)) = head.split_once(" at ") else {
+            done.push(build(head.to_string(), &lines, &done));
+            continue;
+        };
+        for place in places.split_whitespace() {
+            let lines: Vec<String> = lines.iter().map(|l| l.replace('@', place)).collect();
+            done.push(build(format!("{name}-{place}"), &lines, &done));
+        }
+    }
     done
 }

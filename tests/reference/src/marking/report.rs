@@ -44,12 +44,14 @@ pub fn second(cases: &[Case]) -> Vec<u8> {
     cases.iter().map(|c| line(c.brief, &mark(&c.given))).collect::<String>().into_bytes()
 }
 
-/// How many cases there are of each sort.
+/// How many cases there are of each sort, and how many of those that pass have more than ten rows.
 pub fn sorts(cases: &[Case]) -> Vec<u8> {
     let mut counts = BTreeMap::new();
     for c in cases {
         *counts.entry(sort(&c.given)).or_insert(0) += 1;
     }
     let parts: Vec<String> = counts.iter().map(|(sort, n)| format!("{n} {sort}")).collect();
-    format!("{}\n", parts.join(", ")).into_bytes()
+    let large = cases.iter().filter(|c| c.given.rows > 10 && mark(&c.given).number == 0).map(|c| c.given.rows);
+    let most = large.clone().max().unwrap_or(0);
+    format!("{}; {} of more than 10 rows, the largest of {most}\n", parts.join(", "), large.count()).into_bytes()
 }

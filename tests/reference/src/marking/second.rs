@@ -86,8 +86,7 @@ fn by_rounds(rows: &[Triple]) -> BTreeSet<usize> {
             }
         }
         // One of each, and two threads among them: then some two of them differ.
-        let next: [bool; 256] =
-            std::array::from_fn(|m| alive[m] && asking[m] != 0 && holding[m] != 0 && (asking[m] | holding[m]).count_ones() > 1);
+        let next: [bool; 256] = std::array::from_fn(|m| alive[m] && asking[m] != 0 && holding[m] != 0 && (asking[m] | holding[m]).count_ones() > 1);
         if next == alive {
             return (0..256).filter(|m| alive[*m]).collect();
         }
@@ -97,11 +96,12 @@ fn by_rounds(rows: &[Triple]) -> BTreeSet<usize> {
 
 fn largest(rows: &[Triple]) -> BTreeSet<usize> {
     let rounds = by_rounds(rows);
-    if named(rows).len() <= FEW {
-        let union = by_every_set(rows);
-        assert_eq!(union, rounds, "the two ways of the second marking differ on {rows:?}");
+    if named(rows).len() > FEW {
+        return rounds;
     }
-    rounds
+    let union = by_every_set(rows);
+    assert_eq!(union, rounds, "the two ways of the second marking differ on {rows:?}");
+    union
 }
 
 pub fn mark(given: &Given) -> Answer {
