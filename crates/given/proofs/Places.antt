@@ -7,7 +7,7 @@ use Prim.Native.Nat.{ℕ, zero, suc, _+_, _*_, _-_, _≤_, _<_}
 use native.Mathlib.Omega.{arith}
 use native.Mathlib.Decide.{ℕ-discrete, decLt}
 use mathlib.Core.Path.{_≡_, refl, sym, ap, subst, _∙_}
-use mathlib.Core.Logic.{_⊎_, inl, inr, ⊎-elim}
+use mathlib.Core.Logic.{_⊎_, inl, inr}
 use mathlib.Core.List.{List}
 use lib.ListN.{length, getD, take, replicate, length-take, getD-replicate, List·getD-append}
 use lib.Seq.{ext-getD, getD-take, getD-append-add}
@@ -16,9 +16,9 @@ use Rattle.laws.specs.Memory.{part}
 use Rattle.laws.proofs.Memory.{part-length, part-at}
 use Rattle.laws.proofs.Places.{place-in, in-place, pairwise-place, place-pairwise}
 use Rattle.model.specs.Rows.{widest, Dependency, Fair}
-use Rattle.model.specs.Table.{unused, padded, rowSize, keyWords}
+use Rattle.model.specs.Table.{keyAt, unused, padded, rowSize, keyWords}
 use Rattle.model.proofs.Table.{key-length}
-use Rattle.model.proofs.Given.{keyAt, depAt, RowWell, Lies, well-lies}
+use Rattle.model.proofs.Given.{depAt, RowWell, well-lies}
 use Rattle.given.specs.Working.{Sorted, Below, Unused, Places}
 
 module _ (t : List ℕ) (at w : ℕ) where

@@ -7,16 +7,16 @@
 use Prim.Native.Nat.{ℕ, _+_, _*_, _-_, _≤_, _<_}
 use native.Mathlib.Omega.{arith}
 use native.Mathlib.Decide.{ℕ-discrete}
-use mathlib.Core.Path.{_≡_, refl, sym, ap, subst, _∙_}
+use mathlib.Core.Path.{_≡_, sym, ap, subst, _∙_}
 use mathlib.Core.Bool.{true, false}
 use mathlib.Core.List.{List}
 use lib.ListN.{length, take, drop}
 use Rattle.laws.proofs.Tests.{fails, tells-itself}
 use Rattle.laws.proofs.Memory.{part-length}
 use Rattle.model.specs.Rows.{mostRows}
-use Rattle.model.specs.Table.{rowSize}
+use Rattle.model.specs.Table.{rowSize, keyAt}
 use Rattle.model.specs.Given.{given}
-use Rattle.model.proofs.Given.{keyAt, RowWell, given-few, given-room, given-row, given-apart, given-of}
+use Rattle.model.proofs.Given.{RowWell, given-few, given-room, given-row, given-apart, given-of}
 
 pub record Checked (t : List ℕ) (i : ℕ) : Type 0 where
   pub rows : (j : ℕ) → j < i → RowWell t j

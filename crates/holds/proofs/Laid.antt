@@ -1,19 +1,17 @@
 -- What the methods make of what is laid in the places is what the meaning of a trace says.
 use Prim.Native.Nat.{ℕ, suc, _+_, _-_, _≤_, _<_, min}
 use native.Mathlib.Omega.{arith}
-use mathlib.Core.Path.{_≡_, refl, sym, ap, ap₂, _∙_}
-use mathlib.Core.List.{List, [], _∷_, _++_}
+use mathlib.Core.Path.{_≡_, sym, ap, _∙_}
+use mathlib.Core.List.{List}
 use mathlib.Core.Bool.{false}
 use borrow.Author.Tests.{lt-ltb}
-use lib.ListN.{length, take, drop, replicate}
+use lib.ListN.{length, drop, replicate}
 use lib.Seq.{take-append-seam, drop-append-add}
-use Rattle.laws.specs.Sets.{insert, remove}
+use Rattle.laws.specs.Sets.{insert}
 use Rattle.laws.proofs.Sets.{length-insert}
 use Rattle.model.specs.Holds.{mostHeld, Holding, locks, holds, taken, released}
 use Rattle.model.specs.Table.{unused, padded}
 use Rattle.model.proofs.Holds.{locks-taken-new, locks-released}
-use Rattle.holds.specs.declared.Hold.{Hold}
-use Rattle.holds.specs.declared.Asked.{Asked}
 use Rattle.holds.specs.Hold.{inPlaces, laid, inUse, askedOf, takenOf, releasedOf}
 
 in-use : (xs : List ℕ) → length xs ≤ mostHeld → inUse (inPlaces xs) ≡ xs

@@ -17,7 +17,8 @@ use lib.ListN.{length, getD, set, replicate, getD-replicate}
 use lib.Seq.{getD-set-same, getD-set-other}
 use Rattle.laws.proofs.Tests.{either}
 use Rattle.model.specs.Rows.{mostRows}
-use Rattle.index.specs.Index.{keyAt, buckets, bucketOf, inBucket, lastBelow, Linked}
+use Rattle.model.specs.Table.{keyAt}
+use Rattle.index.specs.Index.{buckets, bucketOf, inBucket, lastBelow, Linked}
 
 module _ (f : ℕ → Bool) where
   last-here : (n : ℕ) → f n ≡ true → lastBelow f (suc n) ≡ suc n

@@ -14,7 +14,8 @@ use lib.ListN.{getD}
 use Rattle.laws.specs.Lists.{same}
 use Rattle.laws.proofs.Tests.{never}
 use Rattle.laws.proofs.Lists.{tells-same-list}
-use Rattle.index.specs.Index.{keyAt, buckets, bucketOf, inBucket, lastBelow, Linked, Found}
+use Rattle.model.specs.Table.{keyAt}
+use Rattle.index.specs.Index.{buckets, bucketOf, inBucket, lastBelow, Linked, Found}
 use Rattle.index.proofs.Index.{last-most, last-passes, last-skips}
 
 pub record Seeking (ws key : List ℕ) (rows b k : ℕ) : Type 0 where

@@ -1,6 +1,4 @@
 -- An index of the rows that lie in a table, by their keys. It is working memory: no contract of a call on an image or on a table of rows speaks of it.
---     keySize              how many words a key has
---     keyAt ws r           the words of row r by which its dependency is told apart
 --     buckets              how many buckets there are
 --     bucketOf k           the bucket of a key; inBucket ws b r: the test that row r is in bucket b
 --     lastBelow f n        one more than the last number below n that passes f, or 0 where there is none
@@ -13,14 +11,7 @@ use mathlib.Core.List.{List}
 use lib.ListN.{getD}
 use lib.Dec.{eqb}
 use Rattle.laws.specs.Tests.{if_then_else_}
-use Rattle.laws.specs.Memory.{part}
-use Rattle.model.specs.Table.{rowSize}
-
-abbrev pub keySize : ℕ
-keySize = 10
-
-abbrev pub keyAt : List ℕ → ℕ → List ℕ
-keyAt ws r = part (r * rowSize) keySize ws
+use Rattle.model.specs.Table.{keyAt}
 
 abbrev pub buckets : ℕ
 buckets = 512

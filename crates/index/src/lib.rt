@@ -6,8 +6,8 @@ ghost use lib.ListN.{length, getD, set};
 ghost use Rattle.laws.specs.Lists.{same};
 ghost use Rattle.laws.specs.Memory.{part};
 ghost use Rattle.model.specs.Rows.{mostRows};
-ghost use Rattle.model.specs.Table.{rowSize};
-ghost use Rattle.index.specs.Index.{keySize, buckets, bucketOf, Linked, Found};
+ghost use Rattle.model.specs.Table.{rowSize, keySize};
+ghost use Rattle.index.specs.Index.{buckets, bucketOf, Linked, Found};
 
 // Words in a row, and how many of them are its key.
 pub const ROW: usize = 12;

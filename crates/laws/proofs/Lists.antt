@@ -12,7 +12,7 @@
 --     begins-..                        beginnings
 --     in-flat, flat-in, pairwise-flat  what stands in joined images, and pairs of them
 --     map-append, flat-append, flat-filter, flat-begins     images of a joined list, of those that pass, of a beginning
-use Prim.Native.Nat.{ℕ, zero, suc, _+_, _*_, _≤_, _<_}
+use Prim.Native.Nat.{ℕ, zero, suc, _+_, _≤_, _<_}
 use native.Mathlib.Nat.{not-suc-le-zero}
 use native.Mathlib.Omega.{arith}
 use native.Mathlib.Decide.{ℕ-discrete}
@@ -20,7 +20,7 @@ use mathlib.Core.Path.{_≡_, refl, sym, ap, subst, _∙_}
 use mathlib.Core.Bool.{Bool, true, false, not, false≢true}
 use mathlib.Core.Logic.{_⊎_, inl, inr, ⊎-elim}
 use mathlib.Core.List.{List, [], _∷_, _++_, append-assoc, append-nil, map}
-use lib.ListN.{length, length-append}
+use lib.ListN.{length}
 use lib.Dec.{eqb}
 use Rattle.laws.specs.Tests.{Tells, if_then_else_}
 use Rattle.laws.specs.Lists.{In, Pairwise, Begins, any, all, pairs, same, consIf, filter, flat, upFrom, below}

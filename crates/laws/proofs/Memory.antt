@@ -5,7 +5,7 @@
 --     sets-on                  words stored one after the other
 --     field-more, -one, -two, -four, -drop   a field by its bytes
 --     over-..                  words laid over memory
-use Prim.Native.Nat.{ℕ, zero, suc, _+_, _*_, _-_, _≤_, _<_}
+use Prim.Native.Nat.{ℕ, suc, _+_, _*_, _-_, _≤_, _<_}
 use native.Mathlib.Omega.{arith}
 use native.Mathlib.Numerals.{add-one}
 use mathlib.Core.Path.{_≡_, refl, sym, ap, ap₂, _∙_}

@@ -12,9 +12,9 @@ use native.Mathlib.Omega.{arith}
 use native.Mathlib.Decide.{ℕ-discrete}
 use native.Mathlib.Numerals.{add-one}
 use mathlib.Core.Path.{_≡_, refl, sym, ap, subst, _∙_}
-use mathlib.Core.Logic.{_⊎_, inl, inr, ⊎-elim}
+use mathlib.Core.Logic.{inl, inr}
 use mathlib.Core.List.{List, [], _∷_, _++_, append-assoc, map}
-use lib.ListN.{length, getD, take, drop, set, length-append, length-drop, length-map}
+use lib.ListN.{length, getD, take, drop, set}
 use lib.Seq.{length-take-le, take-suc, drop-cons, set-at, take-all, take-append-le, take-take, drop-append-add, drop-drop}
 use Rattle.laws.specs.Lists.{In, Pairwise, upFrom, below}
 use Rattle.laws.specs.Memory.{over, sum}

@@ -14,7 +14,7 @@ use mathlib.Core.Bool.{Bool, true, false, not, _&&_, _||_, true≢false, false�
 use mathlib.Core.Logic.{_⊎_, inl, inr}
 use lib.Dec.{eqb, leb, ltb}
 use borrow.Author.Tests.{eqb-true, eq-eqb, ne-eqb, ltb-true, lt-ltb, leb-true, le-leb}
-use Rattle.laws.specs.Tests.{Tells, if_then_else_, update}
+use Rattle.laws.specs.Tests.{Tells, update}
 
 pub either : (b : Bool) → (b ≡ true) ⊎ (b ≡ false)
 either true = inl refl

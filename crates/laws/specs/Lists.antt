@@ -16,7 +16,6 @@ use mathlib.Core.Bool.{Bool, true, false, _&&_, _||_}
 use mathlib.Core.Logic.{_⊎_}
 use mathlib.Core.List.{List, [], _∷_, _++_}
 use lib.Dec.{eqb}
-use Rattle.laws.specs.Tests.{if_then_else_}
 
 abbrev pub In : {A : Type 0} → A → List A → Type 0
 In q [] = ⊥

@@ -3,23 +3,22 @@
 --     says-kept                    what the marks of K say of a row is whether it is kept
 use Prim.Native.Nat.{ℕ, _+_, _-_, _≤_, _<_}
 use native.Mathlib.Omega.{arith}
-use mathlib.Core.Path.{_≡_, refl, sym, ap, subst, _∙_}
-use mathlib.Core.Bool.{Bool, true, false}
-use mathlib.Core.Logic.{_⊎_, inl, inr, ⊎-elim}
-use mathlib.Core.List.{List, _++_, map}
-use lib.ListN.{length, getD, take, drop, set, replicate, length-append, length-map, length-replicate, getD-replicate, List·getD-append}
-use lib.Seq.{take-at, length-take-le, length-front, getD-append-add}
-use Rattle.laws.specs.Lists.{In, below}
+use mathlib.Core.Path.{_≡_, sym, ap, _∙_}
+use mathlib.Core.Bool.{true, false}
+use mathlib.Core.Logic.{_⊎_, inl, inr}
+use mathlib.Core.List.{List, _++_}
+use lib.ListN.{length, getD, take, drop, set}
+use lib.Seq.{length-take-le, length-front}
+use Rattle.laws.specs.Lists.{In}
 use Rattle.laws.specs.Memory.{over}
 use Rattle.laws.specs.Sets.{has}
-use Rattle.laws.proofs.Tests.{either, fails, never}
+use Rattle.laws.proofs.Tests.{either, never}
 use Rattle.laws.proofs.Lists.{tells-in}
-use Rattle.laws.proofs.Places.{getD-map, length-below, getD-below, over-next, over-take, over-over}
+use Rattle.laws.proofs.Places.{over-next, over-take, over-over}
 use Rattle.laws.proofs.Memory.{over-length}
-use Rattle.model.specs.Rows.{widest, Dependency, blank, row, Fair}
-use Rattle.model.specs.Tied.{Kept}
+use Rattle.model.specs.Rows.{widest, Dependency, row, Fair}
 use Rattle.model.specs.Kept.{K, kept}
-use Rattle.model.specs.Marking.{mark, lockMarks, rowMarks, pageOf}
+use Rattle.model.specs.Marking.{mark, lockMarks, pageOf}
 use Rattle.model.proofs.Kept.{tells-kept}
 use Rattle.model.proofs.Marks.{locks-length, page-locks, page-length, lock-mark}
 use Rattle.marks.specs.Working.{On, Meets, Says}

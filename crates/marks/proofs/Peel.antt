@@ -6,32 +6,31 @@
 --     sweeping-start, -next, -end     a sweep
 --     bits-set, on-set, zeros-next, bits-zero, wanted-next     a mark that is put
 --     peeled                   marks that are all tied are those of K
-use Prim.Native.Nat.{ℕ, _+_, _*_, _-_, _≤_, _<_}
+use Prim.Native.Nat.{ℕ, _+_, _-_, _≤_, _<_}
 use native.Mathlib.Omega.{arith}
 use native.Mathlib.Decide.{ℕ-discrete, decLt}
 use mathlib.Core.Path.{_≡_, refl, sym, ap, subst, _∙_}
 use mathlib.Core.Bool.{Bool, true, false}
-use mathlib.Core.Logic.{_⊎_, inl, inr, ⊎-elim}
-use mathlib.Core.List.{List, map}
-use lib.ListN.{length, getD, set, length-set, length-map, replicate, length-replicate, getD-replicate, List·getD-eq-default}
+use mathlib.Core.Logic.{_⊎_, inl, inr}
+use mathlib.Core.List.{List}
+use lib.ListN.{length, getD, set, length-set, replicate, length-replicate, getD-replicate, List·getD-eq-default}
 use lib.Seq.{ext-getD, getD-set-same, getD-set-other, set-out}
-use Rattle.laws.specs.Lists.{In, below}
+use Rattle.laws.specs.Lists.{In}
 use Rattle.laws.specs.Memory.{sum}
 use Rattle.laws.specs.Sets.{has}
-use Rattle.laws.specs.Tests.{if_then_else_}
 use Rattle.laws.proofs.Tests.{fails}
 use Rattle.laws.proofs.Lists.{map-in, tells-in}
-use Rattle.laws.proofs.Places.{place-in, in-place, getD-map, length-below, getD-below, sum-set}
-use Rattle.model.specs.Rows.{widest, Dependency, blank, row}
-use Rattle.model.specs.Given.{depsOf, given}
-use Rattle.model.specs.Tied.{Ties, Tied}
-use Rattle.model.specs.Kept.{K, wantedLocks}
+use Rattle.laws.proofs.Places.{place-in, in-place, sum-set}
+use Rattle.model.specs.Rows.{Dependency, blank}
+use Rattle.model.specs.Given.{depsOf}
+use Rattle.model.specs.Tied.{Ties}
+use Rattle.model.specs.Kept.{K}
 use Rattle.model.specs.Marking.{mark, lockMarks}
 use Rattle.model.proofs.Tied.{ties-wider}
 use Rattle.model.proofs.Kept.{K-largest, K-wanted}
 use Rattle.model.proofs.Marks.{locks-length, lock-mark}
-use Rattle.model.proofs.Given.{depAt, Lies, deps-at, length-deps}
-use Rattle.marks.specs.Working.{On, Meets, Asks, Follows, Pair, Passed, Found, Peeling, Tried, Swept, turn, Sweeping}
+use Rattle.model.proofs.Given.{depAt, deps-at, length-deps}
+use Rattle.marks.specs.Working.{On, Asks, Follows, Pair, Passed, Found, Peeling, Tried, Swept, turn, Sweeping}
 
 -- the rows by their numbers
 module _ (t : List ℕ) (n : ℕ) where

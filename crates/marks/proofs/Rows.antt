@@ -3,7 +3,6 @@
 --     meets-here, meets-none    whether the row holds a marked lock, by its places
 --     holds-here, holds-none    whether it holds a given lock
 use Prim.Native.Nat.{ℕ, _+_, _*_, _<_}
-use native.Mathlib.Omega.{arith}
 use mathlib.Core.Path.{_≡_, sym, ap, subst, _∙_}
 use mathlib.Core.List.{List}
 use lib.ListN.{length, getD}

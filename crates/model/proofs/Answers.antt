@@ -3,20 +3,23 @@
 --     small-refused             reading, where too few words are lent
 --     image-refused, -passed    and where enough are
 --     read-well-formed          what is read is a well-formed table
+--     read-given                and what it leaves is given: it passes test 14 as the rows that were read
 --     one-outcome               an outcome settles the answer and every word of the table
 use Prim.Native.Nat.{ℕ, _≤_, _<_}
 use native.Mathlib.Omega.{arith}
 use native.Mathlib.Decide.{ℕ-discrete, decLt}
-use mathlib.Core.Path.{_≡_, sym, ap, _∙_}
+use mathlib.Core.Path.{_≡_, refl, sym, ap, _∙_}
 use mathlib.Core.List.{List, []}
 use borrow.Author.Tests.{lt-ltb, le-ltb}
+use lib.ListN.{length, drop}
 use Rattle.model.specs.declared.Reading.{Reading}
 use Rattle.model.specs.Refusals.{refuses, number, Refusal, Small}
 use Rattle.model.specs.Rows.{deps, WellFormed}
 use Rattle.model.specs.Trace.{start, trace}
 use Rattle.model.specs.Image.{headerSize, header, limitsOf, notesOf, eventsOf}
-use Rattle.model.specs.Table.{tableRoom}
-use Rattle.model.specs.Reading.{notesFound, notesPlace, turnedAway, readImage, readInto, Outcome, outcome}
+use Rattle.model.specs.Table.{tableWords, tableRoom}
+use Rattle.model.specs.Given.{Given}
+use Rattle.model.specs.Reading.{notesFound, notesPlace, turnedAway, readImage, readInto, Outcome, outcome, reading}
 use Rattle.model.proofs.Refusals.{number-passes}
 use Rattle.model.proofs.Traces.{Way, on, stop, way, trace-well-formed}
 use Rattle.model.proofs.Image.{accepted}
@@ -64,6 +67,10 @@ read-well-formed n b = go (decLt n tableRoom) (ℕ-discrete (number (header b)) 
         let A = accepted b (number-passes (header b) z) in
         rw (image-passed b n (omega arith) z) (trace-well-formed (limitsOf b) (eventsOf b) (A .fewThreads) (A .fewLocks))
     go (no l) (no z) = rw (image-refused b n (omega arith) z .2) none-well-formed
+
+pub read-given : (b t : List ℕ) → Given (reading b t .answer .rows) (reading b t .table) (readInto (length t) b .state .rows)
+read-given b t =
+    record { count = refl; words = (drop (length (tableWords (readInto (length t) b .state .rows))) t, refl); well = read-well-formed (length t) b }
 
 pub one-outcome : (x : Outcome) (a b : Reading) (t u : List ℕ) → outcome a t ≡ x → outcome b u ≡ x → (a ≡ b) × (t ≡ u)
 one-outcome x a b t u p q = let e = p ∙ sym q in (ap (λ (o : Outcome). o .answer) e, ap (λ (o : Outcome). o .table) e)

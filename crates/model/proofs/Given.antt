@@ -11,25 +11,25 @@ use Prim.Native.Nat.{ℕ, zero, suc, _+_, _*_, _-_, _≤_, _<_}
 use native.Mathlib.Nat.{le-of-suc-le-suc}
 use native.Mathlib.Omega.{arith}
 use mathlib.Core.Path.{_≡_, refl, sym, ap, ap₂, subst, _∙_}
-use mathlib.Core.Bool.{Bool, true, false}
-use mathlib.Core.Logic.{_⊎_, inl, inr}
-use mathlib.Core.List.{List, [], _∷_, _++_, append-assoc, map}
+use mathlib.Core.Bool.{true}
+use mathlib.Core.Logic.{inl, inr}
+use mathlib.Core.List.{List, [], _∷_, _++_, append-assoc}
 use lib.Dec.{ltb}
-use lib.ListN.{length, getD, take, drop, replicate, length-append, length-take, length-drop, length-map, length-replicate, take-append-drop, drop-of-length-le}
+use lib.ListN.{length, getD, take, drop, replicate, length-append, length-take, length-drop, length-map, take-append-drop, drop-of-length-le}
 use lib.Seq.{drop-cons, take-take, take-at, drop-at, take-add, take-append-seam, drop-drop, getD-take, getD-at}
 use Rattle.laws.specs.Tests.{Tells}
-use Rattle.laws.specs.Lists.{In, Pairwise, all, pairs}
+use Rattle.laws.specs.Lists.{In}
 use Rattle.laws.specs.Memory.{part}
-use Rattle.laws.proofs.Tests.{tells-same, tells-less, tells-most, tells-not, tells-and, tells-as}
+use Rattle.laws.proofs.Tests.{tells-less, tells-most, tells-not, tells-and, tells-as}
 use Rattle.laws.proofs.Lists.{in-map, tells-all, tells-pairs, tells-in, tells-same-list}
 use Rattle.laws.proofs.Memory.{part-length, part-at}
-use Rattle.laws.proofs.Places.{place-in, in-place, pairwise-place, place-pairwise, getD-map}
+use Rattle.laws.proofs.Places.{place-in, in-place, pairwise-place, place-pairwise}
 use Rattle.model.specs.declared.Limits.{Limits}
-use Rattle.model.specs.Rows.{mostRows, widest, Dependency, blank, row, Row, sameDep, deps, Fair, WellFormed}
-use Rattle.model.specs.Table.{unused, padded, rowSize, keyWords, rowWords, tableWords}
+use Rattle.model.specs.Rows.{mostRows, widest, Dependency, blank, row, Row, sameDep, Fair, WellFormed}
+use Rattle.model.specs.Table.{keyAt, unused, padded, rowSize, keyWords, rowWords, tableWords}
 use Rattle.model.specs.Given.{rowOf, rowsOf, depsOf, Given, fair, wellFormed, given}
 use Rattle.model.proofs.Rows.{tells-same-dep}
-use Rattle.model.proofs.Table.{key-once}
+use Rattle.model.proofs.Table.{key-length, row-length, table-length, key-once}
 
 pub tells-fair : (l : Limits) (d : Dependency) → Tells (fair l d) (Fair l d)
 tells-fair l d =
@@ -63,21 +63,14 @@ tells-well-formed ds =
 
 -- ---- a row's words
 
-padded-length : (xs : List ℕ) → length xs ≤ 7 → length (padded 7 xs) ≡ 7
-padded-length xs h = simp (length-append, length-replicate) (omega arith)
-
-row-length : (r : Row) → length (r .what .held) ≤ 7 → length (rowWords r) ≡ rowSize
-row-length r h =
-    length-append (keyWords (r .what)) (r .first ∷ r .times ∷ []) ∙ omega (arith, padded-length (r .what .held) h)
-
 held-short : (ws : List ℕ) → length (rowOf ws .what .held) ≤ 7
 held-short ws = simp (length-take, length-drop) (omega arith)
 
 -- a row's words are read as that row
 row-back : (r : Row) → length (r .what .held) ≤ 7 → rowOf (rowWords r) ≡ r
 row-back r h =
-    let p = padded-length (r .what .held) h in
-    let k : length (keyWords (r .what)) ≡ 10 = omega arith in
+    let k : length (keyWords (r .what)) ≡ 10 = key-length (r .what) h in
+    let p : length (padded 7 (r .what .held)) ≡ 7 = omega arith in
     let q : take 7 (padded 7 (r .what .held) ++ (r .first ∷ r .times ∷ [])) ≡ padded 7 (r .what .held) = take-at (padded 7 (r .what .held)) (r .first ∷ r .times ∷ []) 7 p in
     let e : take (length (r .what .held)) (part 3 7 (rowWords r)) ≡ r .what .held = ap (take (length (r .what .held))) q ∙ take-append-seam (r .what .held) (replicate (7 - length (r .what .held)) unused) in
     let f : getD (rowWords r) 10 0 ≡ r .first = getD-at (keyWords (r .what)) (r .first) (r .times ∷ []) 0 10 k in
@@ -108,10 +101,6 @@ deps-at (suc n) t (suc i) h =
     let e : suc i * rowSize ≡ rowSize + i * rowSize = omega arith in
     deps-at n (drop rowSize t) i (le-of-suc-le-suc h) ∙ ap (λ (l : List ℕ). rowOf (take rowSize l) .what) (drop-drop (i * rowSize) rowSize t ∙ ap (λ (k : ℕ). drop k t) (sym e))
 
-words-length : (rs : List Row) → ((r : Row) → In r rs → length (r .what .held) ≤ 7) → length (tableWords rs) ≡ length rs * rowSize
-words-length [] s = refl
-words-length (r ∷ rs) s = length-append (rowWords r) (tableWords rs) ∙ omega (arith, row-length r (s r (inl refl)), words-length rs (λ q i. s q (inr i)))
-
 rows-short : (n : ℕ) (t : List ℕ) (r : Row) → In r (rowsOf n t) → length (r .what .held) ≤ 7
 unfolding rowsOf
 rows-short zero t r i = absurd i
@@ -119,7 +108,7 @@ rows-short (suc n) t r (inl e) = rw e (held-short (take rowSize t))
 rows-short (suc n) t r (inr i) = rows-short n (drop rowSize t) r i
 
 read-length : (n : ℕ) (t : List ℕ) → length (tableWords (rowsOf n t)) ≡ n * rowSize
-read-length n t = words-length (rowsOf n t) (rows-short n t) ∙ ap (λ (k : ℕ). k * rowSize) (length-rows n t)
+read-length n t = table-length (rowsOf n t) (rows-short n t) ∙ ap (λ (k : ℕ). k * rowSize) (length-rows n t)
 
 -- words that are those of the rows they are read as
 abbrev Whole : ℕ → List ℕ → Type 0
@@ -182,9 +171,6 @@ given-passes n t rs g = tells-given n t .1 (subst (Given n t) (sym (given-rows n
 
 -- ---- row by row
 
-abbrev pub keyAt : List ℕ → ℕ → List ℕ
-keyAt t i = part (i * rowSize) 10 t
-
 pub record RowWell (t : List ℕ) (i : ℕ) : Type 0 where
   pub fair : Fair widest (depAt t i)
   pub key : keyWords (depAt t i) ≡ keyAt t i
@@ -198,7 +184,7 @@ module _ (ws : List ℕ) (l : length ws ≡ rowSize) where
       ap₂ _++_ e (sym g) ∙ take-append-drop 10 ws
 
   whole-key : rowWords (rowOf ws) ≡ ws → keyWords (rowOf ws .what) ≡ take 10 ws
-  whole-key e = sym (take-at (keyWords (rowOf ws .what)) (rowOf ws .first ∷ rowOf ws .times ∷ []) 10 (omega (arith, padded-length (rowOf ws .what .held) (held-short ws)))) ∙ ap (take 10) e
+  whole-key e = sym (take-at (keyWords (rowOf ws .what)) (rowOf ws .first ∷ rowOf ws .times ∷ []) 10 (key-length (rowOf ws .what) (held-short ws))) ∙ ap (take 10) e
 
 key-part : (t : List ℕ) (i : ℕ) → take 10 (part (i * rowSize) rowSize t) ≡ keyAt t i
 key-part t i = take-take 10 rowSize (drop (i * rowSize) t) (omega arith)

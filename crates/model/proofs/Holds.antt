@@ -8,14 +8,13 @@ use Prim.Native.Nat.{ℕ}
 use mathlib.Core.Path.{_≡_, refl, sym, ap, _∙_}
 use mathlib.Core.Logic.{⊎-elim}
 use mathlib.Core.Bool.{true, false}
-use mathlib.Core.List.{List, []}
 use Rattle.laws.specs.Tests.{Tells}
 use Rattle.laws.specs.Lists.{In}
 use Rattle.laws.specs.Sets.{Rising, insert, remove}
 use Rattle.laws.proofs.Tests.{never, fails}
 use Rattle.laws.proofs.Lists.{tells-in}
 use Rattle.laws.proofs.Sets.{insert-in, insert-swap}
-use Rattle.model.specs.Holds.{Holding, nothing, locks, holds, taken, released}
+use Rattle.model.specs.Holds.{Holding, locks, holds, taken, released}
 
 pub tells-holds : (m : ℕ) (h : Holding) → Tells (holds m h) (In m (locks h))
 tells-holds m h = tells-in m (locks h)

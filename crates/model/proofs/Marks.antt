@@ -6,10 +6,10 @@
 --     marking-once                      an outcome settles the answer and every byte of the page
 use Prim.Native.Nat.{ℕ, _+_, _-_, _≤_, _<_}
 use native.Mathlib.Omega.{arith}
-use mathlib.Core.Path.{_≡_, refl, sym, ap, ap₂, subst, _∙_}
+use mathlib.Core.Path.{_≡_, refl, sym, ap, _∙_}
 use mathlib.Core.Bool.{Bool, true, false}
-use mathlib.Core.Logic.{_⊎_, inl, inr, _↔_}
-use mathlib.Core.List.{List, _++_, map}
+use mathlib.Core.Logic.{_↔_}
+use mathlib.Core.List.{List, map}
 use borrow.Author.Tests.{lt-ltb, le-ltb}
 use lib.ListN.{length, getD, take, replicate, length-append, length-map, length-replicate, getD-replicate, List·getD-append}
 use lib.Seq.{take-at, getD-append-add}
@@ -21,7 +21,7 @@ use Rattle.laws.proofs.Lists.{tells-in}
 use Rattle.laws.proofs.Places.{getD-map, length-below, getD-below}
 use Rattle.model.specs.declared.Marking.{Marking}
 use Rattle.model.specs.Rows.{mostRows, widest, Dependency, blank, row, Row, deps}
-use Rattle.model.specs.Given.{rowsOf, depsOf, Given, given}
+use Rattle.model.specs.Given.{depsOf, Given, given}
 use Rattle.model.specs.Tied.{Largest, Kept}
 use Rattle.model.specs.Kept.{K, kept}
 use Rattle.model.specs.Marking.{mark, lockMarks, rowMarks, pageOf, pageRoom, Marked, marked, marking}

@@ -19,7 +19,7 @@ use Rattle.laws.proofs.Tests.{tells-itself}
 use Rattle.laws.proofs.Lists.{in-filter, filter-in, filter-under, in-none, length-filter, flat-begins, in-below, below-in, below-rising, tells-all, pairwise-filter}
 use Rattle.model.specs.Rows.{Dependency, row, WellFormed}
 use Rattle.model.specs.Kept.{kept}
-use Rattle.model.specs.Runs.{Rule, Decides, closed, Chain, Before, Within, runs, rowsOf}
+use Rattle.model.specs.Runs.{Rule, Decides, closed, Chain, Before, Within, runs, allRows}
 use Rattle.model.specs.Answer.{complete, walk}
 use Rattle.model.specs.Searches.{chainsOf, search, full, short, NothingLost}
 use Rattle.model.proofs.Runs.{tells-closed}
@@ -47,68 +47,68 @@ module _ (R : Rule) (D : Decides R) (ds : List Dependency) where
 
   -- ---- those made of all rows
 
-  all-below : (i : ℕ) → In i (rowsOf ds) → i < length ds
+  all-below : (i : ℕ) → In i (allRows ds) → i < length ds
   all-below i = below-in i (length ds)
 
-  pub chains-exact : (p : List ℕ) → In p (chainsOf R ds (rowsOf ds)) ↔ Chain R ds p
+  pub chains-exact : (p : List ℕ) → In p (chainsOf R ds (allRows ds)) ↔ Chain R ds p
   chains-exact p = (
-    λ h. chains-only (rowsOf ds) all-below p h .0,
-    λ c. chains-every (rowsOf ds) p c (λ i h. in-below i (length ds) (c .run .stands .rows i h)),
+    λ h. chains-only (allRows ds) all-below p h .0,
+    λ c. chains-every (allRows ds) p c (λ i h. in-below i (length ds) (c .run .stands .rows i h)),
   )
 
-  pub chains-none : (chainsOf R ds (rowsOf ds) ≡ []) ↔ ((p : List ℕ) → Chain R ds p → ⊥)
+  pub chains-none : (chainsOf R ds (allRows ds) ≡ []) ↔ ((p : List ℕ) → Chain R ds p → ⊥)
   chains-none = (
     λ e p c. subst (λ (l : List (List ℕ)). In p l) e (chains-exact p .1 c),
-    λ h. in-none (chainsOf R ds (rowsOf ds)) (λ p i. h p (chains-exact p .0 i)),
+    λ h. in-none (chainsOf R ds (allRows ds)) (λ p i. h p (chains-exact p .0 i)),
   )
 
   -- ---- any safe choice of rows
 
   module _ (lay : List ℕ → List ℕ) (f : ℕ → Bool) (safe : Safe R ds f) where
     abbrev chosen : List ℕ
-    chosen = filter f (rowsOf ds)
+    chosen = filter f (allRows ds)
 
-    part : filter (all f) (runs R ds (rowsOf ds)) ≡ runs R ds chosen
-    part = runs-filter R D ds (rowsOf ds) (below-rising (length ds)) all-below f
+    part : filter (all f) (runs R ds (allRows ds)) ≡ runs R ds chosen
+    part = runs-filter R D ds (allRows ds) (below-rising (length ds)) all-below f
 
-    closed-pass : (p : List ℕ) → In p (runs R ds (rowsOf ds)) → closed ds p ≡ true → all f p ≡ true
+    closed-pass : (p : List ℕ) → In p (runs R ds (allRows ds)) → closed ds p ≡ true → all f p ≡ true
     closed-pass p h e =
         tells-all f (λ i. tells-itself (f i)) p .1
-        (safe p (record { run = runs-only R D ds (rowsOf ds) all-below p h .0; closed = tells-closed ds p .0 e }))
+        (safe p (record { run = runs-only R D ds (allRows ds) all-below p h .0; closed = tells-closed ds p .0 e }))
 
-    pub safe-chains : chainsOf R ds (filter f (rowsOf ds)) ≡ chainsOf R ds (rowsOf ds)
-    safe-chains = ap (filter (closed ds)) (sym part) ∙ filter-under (all f) (closed ds) (runs R ds (rowsOf ds)) closed-pass
+    pub safe-chains : chainsOf R ds (filter f (allRows ds)) ≡ chainsOf R ds (allRows ds)
+    safe-chains = ap (filter (closed ds)) (sym part) ∙ filter-under (all f) (closed ds) (runs R ds (allRows ds)) closed-pass
 
-    pub complete-chains : (b room : ℕ) → search R ds lay (filter f (rowsOf ds)) b room .ending ≡ complete
-        → search R ds lay (filter f (rowsOf ds)) b room .chains ≡ chainsOf R ds (rowsOf ds)
+    pub complete-chains : (b room : ℕ) → search R ds lay (filter f (allRows ds)) b room .ending ≡ complete
+        → search R ds lay (filter f (allRows ds)) b room .chains ≡ chainsOf R ds (allRows ds)
     complete-chains b room e = walk-complete (closed ds) lay (runs R ds chosen) b room e .0 ∙ safe-chains
 
-    pub same-chains : (b b′ room room′ : ℕ) → full R ds lay b room .ending ≡ complete → search R ds lay (filter f (rowsOf ds)) b′ room′ .ending ≡ complete
-        → search R ds lay (filter f (rowsOf ds)) b′ room′ .chains ≡ full R ds lay b room .chains
-    same-chains b b′ room room′ e e′ = complete-chains b′ room′ e′ ∙ sym (walk-complete (closed ds) lay (runs R ds (rowsOf ds)) b room e .0)
+    pub same-chains : (b b′ room room′ : ℕ) → full R ds lay b room .ending ≡ complete → search R ds lay (filter f (allRows ds)) b′ room′ .ending ≡ complete
+        → search R ds lay (filter f (allRows ds)) b′ room′ .chains ≡ full R ds lay b room .chains
+    same-chains b b′ room room′ e e′ = complete-chains b′ room′ e′ ∙ sym (walk-complete (closed ds) lay (runs R ds (allRows ds)) b room e .0)
 
-    pub no-more-steps : (b b′ room room′ : ℕ) → full R ds lay b room .ending ≡ complete → search R ds lay (filter f (rowsOf ds)) b′ room′ .ending ≡ complete
-        → search R ds lay (filter f (rowsOf ds)) b′ room′ .steps ≤ full R ds lay b room .steps
+    pub no-more-steps : (b b′ room room′ : ℕ) → full R ds lay b room .ending ≡ complete → search R ds lay (filter f (allRows ds)) b′ room′ .ending ≡ complete
+        → search R ds lay (filter f (allRows ds)) b′ room′ .steps ≤ full R ds lay b room .steps
     no-more-steps b b′ room room′ e e′ =
         omega (
           arith,
           walk-complete (closed ds) lay (runs R ds chosen) b′ room′ e′ .1,
-          walk-complete (closed ds) lay (runs R ds (rowsOf ds)) b room e .1,
-          length-filter (all f) (runs R ds (rowsOf ds)),
+          walk-complete (closed ds) lay (runs R ds (allRows ds)) b room e .1,
+          length-filter (all f) (runs R ds (allRows ds)),
           ap length part,
         )
 
-    pub full-begins : (b room : ℕ) → Begins (full R ds lay b room .chains) (search R ds lay (filter f (rowsOf ds)) b room .chains)
+    pub full-begins : (b room : ℕ) → Begins (full R ds lay b room .chains) (search R ds lay (filter f (allRows ds)) b room .chains)
     full-begins b room =
         subst (λ (l : List (List ℕ)). Begins (full R ds lay b room .chains) (walk (closed ds) lay l b room .chains)) part
-        (walk-fewer (closed ds) lay (all f) (runs R ds (rowsOf ds)) closed-pass b b room (omega arith))
+        (walk-fewer (closed ds) lay (all f) (runs R ds (allRows ds)) closed-pass b b room (omega arith))
 
-    pub complete-exact : (b room : ℕ) → search R ds lay (filter f (rowsOf ds)) b room .ending ≡ complete
-        → (p : List ℕ) → In p (search R ds lay (filter f (rowsOf ds)) b room .chains) ↔ Chain R ds p
+    pub complete-exact : (b room : ℕ) → search R ds lay (filter f (allRows ds)) b room .ending ≡ complete
+        → (p : List ℕ) → In p (search R ds lay (filter f (allRows ds)) b room .chains) ↔ Chain R ds p
     complete-exact b room e p = subst (λ (l : List (List ℕ)). In p l ↔ Chain R ds p) (sym (complete-chains b room e)) (chains-exact p)
 
-    pub none-means-none : (b room : ℕ) → search R ds lay (filter f (rowsOf ds)) b room .ending ≡ complete
-        → (search R ds lay (filter f (rowsOf ds)) b room .chains ≡ []) ↔ ((p : List ℕ) → Chain R ds p → ⊥)
+    pub none-means-none : (b room : ℕ) → search R ds lay (filter f (allRows ds)) b room .ending ≡ complete
+        → (search R ds lay (filter f (allRows ds)) b room .chains ≡ []) ↔ ((p : List ℕ) → Chain R ds p → ⊥)
     none-means-none b room e = subst (λ (l : List (List ℕ)). (l ≡ []) ↔ ((p : List ℕ) → Chain R ds p → ⊥)) (sym (complete-chains b room e)) chains-none
 
 -- ---- kept rows
@@ -128,10 +128,10 @@ module _ (R : Rule) (D : Decides R) (ds : List Dependency) (lay : List ℕ → L
         written = λ b room. flat-begins lay (full R ds lay b room .chains) (short R ds lay b room .chains) (full-begins R D ds lay f safe b room);
         none = none-means-none R D ds lay f safe;
         none-full = λ b room e.
-            subst (λ (l : List (List ℕ)). (l ≡ []) ↔ ((p : List ℕ) → Chain R ds p → ⊥)) (sym (walk-complete (closed ds) lay (runs R ds (rowsOf ds)) b room e .0)) (chains-none R D ds);
+            subst (λ (l : List (List ℕ)). (l ≡ []) ↔ ((p : List ℕ) → Chain R ds p → ⊥)) (sym (walk-complete (closed ds) lay (runs R ds (allRows ds)) b room e .0)) (chains-none R D ds);
       }
 
-  pub short-chains : (b room : ℕ) → short R ds lay b room .ending ≡ complete → short R ds lay b room .chains ≡ chainsOf R ds (rowsOf ds)
+  pub short-chains : (b room : ℕ) → short R ds lay b room .ending ≡ complete → short R ds lay b room .chains ≡ chainsOf R ds (allRows ds)
   short-chains = complete-chains R D ds lay (λ i. kept ds (row ds i)) (kept-safe R ds wf)
 
   pub short-exact : (b room : ℕ) → short R ds lay b room .ending ≡ complete → (p : List ℕ) → In p (short R ds lay b room .chains) ↔ Chain R ds p

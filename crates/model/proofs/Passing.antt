@@ -5,18 +5,17 @@
 --     after-..      the state after it
 use Prim.Native.Nat.{ℕ, _≤_, _<_}
 use native.Mathlib.Omega.{arith}
-use mathlib.Core.Path.{_≡_, refl, sym, ap, _∙_}
+use mathlib.Core.Path.{_≡_, refl, _∙_}
 use mathlib.Core.Bool.{Bool, true, false, not, _&&_, _||_, false≢true}
-use mathlib.Core.Logic.{_⊎_, inl, inr}
-use mathlib.Core.List.{List}
+use mathlib.Core.Logic.{_⊎_}
 use lib.ListN.{length}
-use lib.Dec.{eqb, leb, ltb}
+use lib.Dec.{eqb, leb}
 use borrow.Author.Tests.{eq-eqb, ne-eqb, le-leb, lt-leb, lt-ltb, le-ltb, leb-false, not-false}
 use Rattle.laws.specs.Tests.{if_then_else_}
 use Rattle.laws.proofs.Tests.{tells-same, tells-or, update-there}
 use Rattle.model.specs.declared.Event.{Event}
 use Rattle.model.specs.declared.Limits.{Limits}
-use Rattle.model.specs.Refusals.{Verdict, passes, refuses, Refusal, Kind, Thread, Lock, Taken, Deep, NotHeld, Full, _if_else_}
+use Rattle.model.specs.Refusals.{passes, refuses, Kind, Thread, Lock, Taken, Deep, NotHeld, Full, _if_else_}
 use Rattle.model.specs.Holds.{mostHeld, locks, taken, released}
 use Rattle.model.specs.Rows.{mostRows, known}
 use Rattle.model.specs.Trace.{acquires, releases, State, holdsIt, elsewhere, dependency, arises, refusal, acquired, gaveUp, after}

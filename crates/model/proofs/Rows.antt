@@ -7,15 +7,15 @@
 use Prim.Native.Nat.{ℕ, zero, suc, _+_, _≤_, _<_}
 use native.Mathlib.Nat.{le-of-suc-le-suc, not-suc-le-zero}
 use native.Mathlib.Omega.{arith}
-use mathlib.Core.Path.{_≡_, refl, sym, ap, ap₂, subst, _∙_}
+use mathlib.Core.Path.{_≡_, refl, sym, ap, ap₂, subst}
 use mathlib.Core.Bool.{Bool, true, false}
 use mathlib.Core.Logic.{_⊎_, inl, inr, ⊎-elim}
 use mathlib.Core.List.{List, [], _∷_, _++_, map}
-use lib.ListN.{length, length-map, length-append}
+use lib.ListN.{length}
 use Rattle.laws.specs.Tests.{Tells, if_then_else_}
-use Rattle.laws.specs.Lists.{In, same}
+use Rattle.laws.specs.Lists.{In}
 use Rattle.laws.proofs.Tests.{either, fails, tells-same, tells-and, tells-as}
-use Rattle.laws.proofs.Lists.{in-map, map-in, in-append, tells-any, tells-same-list}
+use Rattle.laws.proofs.Lists.{in-map, map-in, tells-any, tells-same-list}
 use Rattle.model.specs.Rows.{Dependency, Row, row, sameDep, isOf, known, newRow, again, counted, arose, deps, placed}
 
 pub row-in : (ds : List Dependency) (i : ℕ) → i < length ds → In (row ds i) ds

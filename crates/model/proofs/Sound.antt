@@ -4,28 +4,26 @@
 --     Sound n p s          a state after p events: each lock is held by one thread alone, no two rows have one dependency, rows stand in the order of first arising
 --     sound-start          before event 0
 --     sound-after          after an event that passes
-use Prim.Native.Nat.{ℕ, zero, suc, _+_, _≤_, _<_}
+use Prim.Native.Nat.{ℕ, suc, _+_, _≤_, _<_}
 use native.Mathlib.Omega.{arith}
 use native.Mathlib.Decide.{ℕ-discrete}
-use mathlib.Core.Path.{_≡_, refl, sym, ap, subst, _∙_}
+use mathlib.Core.Path.{_≡_, refl, sym, subst, _∙_}
 use mathlib.Core.Bool.{Bool, true, false}
 use mathlib.Core.Logic.{_⊎_, inl, inr, ⊎-elim}
 use mathlib.Core.List.{List, [], _∷_, _++_, map}
 use lib.ListN.{length, length-map, length-append}
-use lib.Dec.{eqb}
-use borrow.Author.Tests.{ltb-true}
 use Rattle.laws.specs.Tests.{Tells, if_then_else_, update}
 use Rattle.laws.specs.Lists.{In, Pairwise, below}
-use Rattle.laws.specs.Sets.{Rising, insert}
+use Rattle.laws.specs.Sets.{Rising}
 use Rattle.laws.proofs.Tests.{either, never, fails, tells-not, tells-same, tells-less, tells-and, update-here, update-there}
-use Rattle.laws.proofs.Lists.{in-map, map-in, in-append, in-below, map-append, tells-any, pairwise-append}
+use Rattle.laws.proofs.Lists.{map-in, in-append, in-below, map-append, tells-any, pairwise-append}
 use Rattle.laws.proofs.Sets.{insert-in, insert-rising, length-insert, remove-in, remove-rising, length-remove}
 use Rattle.model.specs.declared.Event.{Event}
 use Rattle.model.specs.declared.Limits.{Limits}
 use Rattle.model.specs.Refusals.{passes}
-use Rattle.model.specs.Holds.{mostHeld, Holding, nothing, locks, holds, taken, released}
+use Rattle.model.specs.Holds.{mostHeld, Holding, locks, holds, taken, released}
 use Rattle.model.specs.Rows.{mostRows, Dependency, Row, known, newRow, counted, arose, deps, Fair}
-use Rattle.model.specs.Trace.{State, start, holdsIt, elsewhere, dependency, arises, refusal, after}
+use Rattle.model.specs.Trace.{State, start, elsewhere, dependency, arises, refusal, after}
 use Rattle.model.proofs.Holds.{tells-holds, locks-taken-new, locks-taken-again, locks-released}
 use Rattle.model.proofs.Rows.{tells-known, Arose, repeats, begins, arose-either, what-counted, first-counted, times-counted, deps-counted, firsts-counted}
 use Rattle.model.proofs.Passing.{depth, Passed, passed, after-acquire, after-release}

@@ -7,7 +7,7 @@
 --     trace-times             a row's occurrences are how often its dependency arises
 --     trace-first             its position is that of the first such event
 --     trace-rows              a dependency has a row exactly if it arises
-use Prim.Native.Nat.{ℕ, zero, suc, _+_, _≤_, _<_}
+use Prim.Native.Nat.{ℕ, suc, _+_}
 use native.Mathlib.Omega.{arith}
 use mathlib.Core.Path.{_≡_, refl, sym, ap, subst, _∙_}
 use mathlib.Core.Bool.{Bool, true, false, _&&_}
@@ -19,9 +19,9 @@ use Rattle.laws.proofs.Tests.{either, never, fails}
 use Rattle.laws.proofs.Lists.{in-map, in-append, in-left, in-right, map-append, pairwise-append}
 use Rattle.model.specs.declared.Event.{Event}
 use Rattle.model.specs.declared.Limits.{Limits}
-use Rattle.model.specs.Refusals.{Refusal, Verdict, passes, refuses}
-use Rattle.model.specs.Rows.{Dependency, Row, sameDep, isOf, known, newRow, again, counted, arose, deps, placed}
-use Rattle.model.specs.Trace.{acquires, releases, State, start, dependency, arises, refusal, acquired, gaveUp, after, Read, reads, trace}
+use Rattle.model.specs.Refusals.{Refusal, passes, refuses}
+use Rattle.model.specs.Rows.{Dependency, Row, sameDep, isOf, known, newRow, counted, arose, deps, placed}
+use Rattle.model.specs.Trace.{acquires, releases, State, start, dependency, arises, refusal, acquired, gaveUp, after, reads, trace}
 use Rattle.model.proofs.Rows.{tells-same-dep, tells-known, Arose, repeats, begins, arose-either, deps-counted, placed-counted, counted-none}
 use Rattle.model.proofs.Traces.{Way, on, stop, way, reads-end, reads-on, reads-stop}
 

@@ -5,24 +5,23 @@
 --     reads-more, reads-append a trace and what is added to it
 --     trace-longer             the rows of a longer trace begin with the rows of a shorter one, in all but occurrences
 --     trace-cut                a refusal at an event leaves what the trace cut before that event leaves
-use Prim.Native.Nat.{ℕ, zero, suc, _+_, _≤_, _<_}
+use Prim.Native.Nat.{ℕ, suc, _+_, _≤_, _<_}
 use native.Mathlib.Omega.{arith}
-use mathlib.Core.Path.{_≡_, refl, sym, ap, subst, _∙_}
+use mathlib.Core.Path.{_≡_, refl, sym, ap, _∙_}
 use mathlib.Core.Bool.{Bool, true, false}
-use mathlib.Core.Logic.{_⊎_, inl, inr, ⊎-elim}
 use mathlib.Core.List.{List, [], _∷_, _++_, map}
 use lib.ListN.{length, take, length-map}
 use Rattle.laws.specs.Tests.{if_then_else_}
-use Rattle.laws.specs.Lists.{In, Begins}
+use Rattle.laws.specs.Lists.{Begins}
 use Rattle.laws.proofs.Lists.{map-in, map-append, begins-itself, begins-longer, begins-through}
 use Rattle.model.specs.declared.Event.{Event}
 use Rattle.model.specs.declared.Limits.{Limits}
 use Rattle.model.specs.Refusals.{Refusal, Verdict, passes, refuses}
-use Rattle.model.specs.Rows.{mostRows, widest, Dependency, Row, known, newRow, counted, arose, deps, placed, Fair, WellFormed}
+use Rattle.model.specs.Rows.{widest, Dependency, Row, newRow, arose, deps, placed, Fair, WellFormed}
 use Rattle.model.specs.Trace.{acquires, releases, State, start, dependency, arises, refusal, acquired, gaveUp, after, Read, reads, trace}
 use Rattle.model.proofs.Refusals.{refuses-passes}
 use Rattle.model.proofs.Rows.{Arose, repeats, begins, arose-either, placed-counted}
-use Rattle.model.proofs.Sound.{Sound, SoundRows, sound-start, sound-after}
+use Rattle.model.proofs.Sound.{Sound, sound-start, sound-after}
 
 -- ---- one event at a time
 

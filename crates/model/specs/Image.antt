@@ -20,7 +20,7 @@ use Rattle.laws.specs.Memory.{part, field}
 use Rattle.model.specs.declared.Event.{Event}
 use Rattle.model.specs.declared.Limits.{Limits}
 use Rattle.model.specs.Rows.{widest}
-use Rattle.model.specs.Refusals.{Verdict, passes, _if_else_, Refusal, Short, Long, Mark, Counts, Places}
+use Rattle.model.specs.Refusals.{Verdict, passes, _if_else_, Short, Long, Mark, Counts, Places}
 
 abbrev pub mark : List ℕ
 mark = 0x4C ∷ 0x4B ∷ 0x54 ∷ 0x31 ∷ []

@@ -15,7 +15,7 @@ use lib.Dec.{ltb}
 use Rattle.laws.specs.Tests.{if_then_else_}
 use Rattle.laws.specs.Memory.{over}
 use Rattle.model.specs.declared.Reading.{Reading}
-use Rattle.model.specs.Refusals.{Verdict, passes, refuses, number, Refusal, Small}
+use Rattle.model.specs.Refusals.{passes, refuses, number, Refusal, Small}
 use Rattle.model.specs.Trace.{Read, start, trace}
 use Rattle.model.specs.Image.{headerSize, header, limitsOf, notesOf, eventsOf}
 use Rattle.model.specs.Table.{tableWords, tableRoom}

@@ -20,7 +20,7 @@
 --     from R ds us k p     the extensions of p by one to k rows of us, in order
 --     next R ds us k p i   row i after p where it fits, and the extensions of that by at most k rows
 --     runs R ds us     the runs made of the rows us, in order
---     rowsOf ds        the numbers of all rows, rising
+--     allRows ds        the numbers of all rows, rising
 use Prim.Native.Nat.{ℕ, zero, suc, _≤_, _<_}
 use mathlib.Core.Path.{_≡_}
 use mathlib.Core.Bool.{Bool, true, false, not, _&&_}
@@ -130,5 +130,5 @@ next R ds us k p i = grown (fits R ds p i) (from R ds us k) (p ++ (i ∷ []))
 abbrev pub runs : Rule → List Dependency → List ℕ → List (List ℕ)
 runs R ds us = from R ds us mostRun []
 
-abbrev pub rowsOf : List Dependency → List ℕ
-rowsOf ds = below (length ds)
+abbrev pub allRows : List Dependency → List ℕ
+allRows ds = below (length ds)

@@ -15,7 +15,7 @@ use lib.ListN.{length}
 use Rattle.laws.specs.Lists.{filter, Begins}
 use Rattle.model.specs.Rows.{Dependency}
 use Rattle.model.specs.Kept.{keptRows}
-use Rattle.model.specs.Runs.{Rule, closed, Chain, runs, rowsOf}
+use Rattle.model.specs.Runs.{Rule, closed, Chain, runs, allRows}
 use Rattle.model.specs.Answer.{complete, Answer, walk, words}
 
 abbrev pub chainWords : List ℕ → List ℕ
@@ -28,7 +28,7 @@ abbrev pub search : Rule → List Dependency → (List ℕ → List ℕ) → Lis
 search R ds lay us b room = walk (closed ds) lay (runs R ds us) b room
 
 abbrev pub full : Rule → List Dependency → (List ℕ → List ℕ) → ℕ → ℕ → Answer
-full R ds lay = search R ds lay (rowsOf ds)
+full R ds lay = search R ds lay (allRows ds)
 
 abbrev pub short : Rule → List Dependency → (List ℕ → List ℕ) → ℕ → ℕ → Answer
 short R ds lay = search R ds lay (keptRows ds)

@@ -20,7 +20,7 @@ use Rattle.laws.specs.Tests.{if_then_else_, update}
 use Rattle.laws.specs.Lists.{any, below}
 use Rattle.model.specs.declared.Event.{Event}
 use Rattle.model.specs.declared.Limits.{Limits}
-use Rattle.model.specs.Refusals.{Verdict, passes, refuses, _if_else_, Refusal, Kind, Thread, Lock, Taken, Deep, NotHeld, Full}
+use Rattle.model.specs.Refusals.{Verdict, passes, refuses, _if_else_, Kind, Thread, Lock, Taken, Deep, NotHeld, Full}
 use Rattle.model.specs.Holds.{mostHeld, Holding, nothing, locks, holds, taken, released}
 use Rattle.model.specs.Rows.{Dependency, Row, fullFor, arose}
 

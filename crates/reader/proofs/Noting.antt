@@ -13,9 +13,9 @@ use Rattle.laws.specs.Tests.{if_then_else_}
 use Rattle.laws.specs.Lists.{In}
 use Rattle.laws.proofs.Lists.{in-map}
 use Rattle.model.specs.Rows.{mostRows, Dependency, Row, known, newRow, counted, fullFor, arose, deps}
-use Rattle.model.specs.Table.{rowSize, keyWords, tableRoom}
+use Rattle.model.specs.Table.{rowSize, keyWords, tableRoom, keySize, keyAt}
 use Rattle.model.proofs.Rows.{tells-known, arose-known, arose-new}
-use Rattle.index.specs.Index.{keySize, keyAt, buckets, bucketOf, Linked}
+use Rattle.index.specs.Index.{buckets, bucketOf, Linked}
 use Rattle.index.proofs.Index.{linked-kept, linked-new}
 use Rattle.reader.specs.Working.{Tabled, Keyed}
 use Rattle.reader.proofs.Tables.{split, split-in, tabled-counted, tabled-new, key-counted, key-put, key-others, known-there, known-nowhere}

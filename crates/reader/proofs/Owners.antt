@@ -4,26 +4,26 @@
 --     owned-taken          a lock that was free is taken
 --     owned-released       a lock is given up
 --     elsewhere-none, elsewhere-some    whether another thread holds the event's lock
-use Prim.Native.Nat.{ℕ, zero, suc, _+_, _-_, _≤_, _<_}
+use Prim.Native.Nat.{ℕ, suc, _+_, _-_, _≤_, _<_}
 use native.Mathlib.Omega.{arith}
 use native.Mathlib.Decide.{ℕ-discrete, decLt}
 use mathlib.Core.Path.{_≡_, refl, sym, ap, subst, _∙_}
-use mathlib.Core.Bool.{Bool, true, false}
+use mathlib.Core.Bool.{true, false}
 use mathlib.Core.Logic.{_⊎_, inl, inr, ⊎-elim}
 use mathlib.Core.List.{List}
 use borrow.Author.Tests.{eq-eqb, ne-eqb, eqb-true}
 use lib.Dec.{eqb}
-use lib.ListN.{length, getD, set, replicate, length-set, getD-replicate, List·getD-eq-default}
+use lib.ListN.{getD, set, replicate, length-set, getD-replicate, List·getD-eq-default}
 use lib.Seq.{getD-set-same, getD-set-other}
-use Rattle.laws.specs.Tests.{Tells, update}
+use Rattle.laws.specs.Tests.{update}
 use Rattle.laws.specs.Lists.{In, any}
 use Rattle.laws.specs.Sets.{insert, remove}
 use Rattle.laws.proofs.Tests.{never, fails, tells-as, tells-equal, update-here, update-there}
-use Rattle.laws.proofs.Lists.{below-in, in-below, tells-in}
+use Rattle.laws.proofs.Lists.{below-in, in-below}
 use Rattle.laws.proofs.Sets.{insert-in, in-insert, remove-in, in-remove}
 use Rattle.model.specs.declared.Event.{Event}
 use Rattle.model.specs.declared.Limits.{Limits}
-use Rattle.model.specs.Holds.{Holding, nothing, locks, holds}
+use Rattle.model.specs.Holds.{Holding, locks, holds}
 use Rattle.model.specs.Trace.{State, start, holdsIt, elsewhere}
 use Rattle.model.proofs.Holds.{tells-holds}
 use Rattle.model.proofs.Sound.{Sound, tells-elsewhere}

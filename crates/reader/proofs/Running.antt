@@ -5,35 +5,33 @@
 --     runs-ready       what the step relies on
 --     runs-stop, runs-end      the answer at a refusal, and at the end
 --     image-told       reading an image that is accepted is running through its events
-use Prim.Native.Nat.{ℕ, zero, suc, _+_, _*_, _-_, _%_, _≤_, _<_}
+use Prim.Native.Nat.{ℕ, suc, _+_, _*_, _-_, _%_, _≤_, _<_}
 use native.Mathlib.Omega.{arith}
 use native.Mathlib.Decide.{ℕ-discrete}
 use native.Mathlib.Numerals.{add-one}
-use mathlib.Core.Path.{_≡_, refl, sym, ap, subst, _∙_}
-use mathlib.Core.List.{List, [], _∷_}
+use mathlib.Core.Path.{_≡_, refl, sym, ap, _∙_}
+use mathlib.Core.List.{List, _∷_}
 use lib.ListN.{length, getD, take, drop, set, replicate, length-set, length-drop, getD-replicate}
 use lib.Seq.{take-all, getD-set-same, getD-set-other}
-use Rattle.laws.specs.Memory.{over}
 use Rattle.model.specs.declared.Event.{Event}
 use Rattle.model.specs.declared.Limits.{Limits}
-use Rattle.model.specs.declared.Reading.{Reading}
-use Rattle.model.specs.Refusals.{passes, refuses, number, Refusal}
-use Rattle.model.specs.Holds.{nothing, locks}
+use Rattle.model.specs.Refusals.{passes, refuses, number}
+use Rattle.model.specs.Holds.{nothing}
 use Rattle.model.specs.Image.{eventSize, events, offset, limitsOf, eventOf, eventsFrom, eventsOf}
 use Rattle.model.specs.Reading.{Outcome, outcome, told}
-use Rattle.model.specs.Rows.{widest, mostRows}
-use Rattle.model.specs.Table.{rowSize, tableWords, tableRoom}
+use Rattle.model.specs.Rows.{mostRows}
+use Rattle.model.specs.Table.{rowSize, tableRoom}
 use Rattle.model.specs.Trace.{State, start, refusal, after, Read, reads, trace}
 use Rattle.model.proofs.Image.{Accepted}
 use Rattle.model.proofs.Passing.{passed, held-after}
 use Rattle.model.proofs.Refusals.{number-passes}
-use Rattle.model.proofs.Sound.{Sound, sound-start, sound-after}
+use Rattle.model.proofs.Sound.{sound-start, sound-after}
 use Rattle.model.proofs.Traces.{Way, on, stop, way, reads-end, reads-on, reads-stop}
 use Rattle.holds.specs.declared.Hold.{Hold}
 use Rattle.holds.specs.Hold.{laid}
 use Rattle.index.specs.Index.{buckets, Linked}
 use Rattle.index.proofs.Index.{linked-start}
-use Rattle.reader.specs.Working.{Ready, Tabled, Owned, Lies, stepped, Did}
+use Rattle.reader.specs.Working.{Ready, Tabled, Lies, stepped, Did}
 use Rattle.reader.proofs.Events.{events-more, events-none}
 use Rattle.reader.proofs.Owners.{owned-start}
 use Rattle.reader.proofs.Tables.{split, split-in, times-there}

@@ -3,27 +3,26 @@
 --     did-again, did-taken, did-deep, did-first, did-full, did-noted      the ways of an acquire
 --     did-released, did-not-held   the ways of a release
 --     named, did-unnamed, did-unknown     names and kinds
-use Prim.Native.Nat.{ℕ, zero, suc, _+_, _-_, _≤_, _<_}
+use Prim.Native.Nat.{ℕ, suc, _+_, _-_, _≤_, _<_}
 use native.Mathlib.Omega.{arith}
-use native.Mathlib.Decide.{ℕ-discrete, decLt}
-use mathlib.Core.Path.{_≡_, refl, sym, ap, ap₂, subst, _∙_}
+use native.Mathlib.Decide.{ℕ-discrete}
+use mathlib.Core.Path.{_≡_, refl, sym, ap, _∙_}
 use mathlib.Core.Bool.{Bool, true, false, _||_}
-use mathlib.Core.Logic.{_⊎_, inl, inr, ⊎-elim}
-use mathlib.Core.List.{List, [], _∷_, map}
+use mathlib.Core.Logic.{_⊎_, inl, inr}
+use mathlib.Core.List.{List, _∷_}
 use borrow.Author.Tests.{eqb-true, lt-ltb, le-ltb, leb-true, leb-false}
 use lib.Dec.{leb}
 use lib.ListN.{length, getD, take, set}
-use Rattle.laws.specs.Tests.{if_then_else_, update}
-use Rattle.laws.specs.Sets.{insert, remove}
+use Rattle.laws.specs.Tests.{if_then_else_}
 use Rattle.laws.proofs.Tests.{either, fails, tells-not, tells-and, tells-most, tells-itself, update-here}
 use Rattle.model.specs.declared.Event.{Event}
 use Rattle.model.specs.declared.Limits.{Limits}
-use Rattle.model.specs.Refusals.{Verdict, passes, refuses, number, numberOf, Refusal, Kind, Thread, Lock, Taken, Deep, NotHeld, Full}
-use Rattle.model.specs.Holds.{mostHeld, Holding, locks, holds, taken, released}
-use Rattle.model.specs.Rows.{mostRows, Dependency, Row, known, fullFor, arose, deps}
-use Rattle.model.specs.Table.{padded, keyWords}
-use Rattle.model.specs.Trace.{acquires, releases, State, holdsIt, elsewhere, dependency, arises, refusal, acquired, gaveUp, after}
-use Rattle.model.proofs.Holds.{tells-holds, locks-taken-new, locks-taken-again, locks-released}
+use Rattle.model.specs.Refusals.{passes, refuses, number, numberOf, Refusal, Kind, Thread, Lock, Taken, Deep, NotHeld, Full}
+use Rattle.model.specs.Holds.{mostHeld, locks, holds, taken, released}
+use Rattle.model.specs.Rows.{mostRows, known, fullFor, arose}
+use Rattle.model.specs.Table.{keyWords}
+use Rattle.model.specs.Trace.{acquires, releases, State, holdsIt, elsewhere, dependency, arises, refusal, after}
+use Rattle.model.proofs.Holds.{locks-taken-new, locks-taken-again, locks-released}
 use Rattle.model.proofs.Passing.{depth, refuse-kind, refuse-thread, refuse-lock, refuse-taken, refuse-deep, refuse-full, refuse-not-held, pass-again, pass-first, pass-known, pass-new, pass-release, after-acquire, after-release, held-after}
 use Rattle.model.proofs.Refusals.{refuses-passes}
 use Rattle.model.proofs.Sound.{Sound}

@@ -1,42 +1,32 @@
 -- Rows where they lie in the lent table.
 --     Short rs                 each row's H fits in its seven places
---     table-length             how many words rows have
 --     Split, split, split-in   the row in a place, with those before and after it
 --     key-there, times-there   the key of a row, and its occurrences, by its place
 --     key-counted, key-put     counting and a new row leave the keys of the other rows
 --     tabled-counted           one occurrence more
 --     tabled-new               one row more
 --     known-there, known-nowhere    whether a dependency has a row, by the keys
-use Prim.Native.Nat.{ℕ, zero, suc, _+_, _*_, _-_, _≤_, _<_}
+use Prim.Native.Nat.{ℕ, suc, _+_, _*_, _-_, _≤_, _<_}
 use native.Mathlib.Omega.{arith}
 use native.Mathlib.Decide.{decLe}
 use mathlib.Core.Path.{_≡_, refl, sym, ap, ap₂, subst, _∙_}
-use mathlib.Core.Bool.{Bool, true, false}
-use mathlib.Core.Logic.{_⊎_, inl, inr, ⊎-elim}
+use mathlib.Core.Bool.{false}
+use mathlib.Core.Logic.{inl, inr}
 use mathlib.Core.List.{List, [], _∷_, _++_, append-assoc, append-nil, map}
-use lib.ListN.{length, getD, take, drop, set, length-append, length-drop, length-map, take-append-drop}
-use lib.Seq.{length-take-le, split-at, set-at, getD-at, take-at, drop-at, drop-drop, drop-append-add, drop-set-lt, drop-set-add, take-set-le, sets, sets-eq}
-use Rattle.laws.specs.Tests.{if_then_else_}
-use Rattle.laws.specs.Lists.{In, Pairwise, flat}
+use lib.ListN.{length, getD, take, drop, set, length-append, length-map, take-append-drop}
+use lib.Seq.{length-take-le, split-at, set-at, getD-at, take-at, drop-set-lt, drop-set-add, take-set-le, sets, sets-eq}
+use Rattle.laws.specs.Lists.{In, Pairwise}
 use Rattle.laws.specs.Memory.{part, over}
-use Rattle.laws.proofs.Tests.{either, fails, never}
-use Rattle.laws.proofs.Lists.{in-left, in-right, in-map, map-in, map-append, flat-append, append-pairwise}
+use Rattle.laws.proofs.Tests.{fails}
+use Rattle.laws.proofs.Lists.{in-left, in-right, map-in, map-append, flat-append, append-pairwise}
 use Rattle.laws.proofs.Memory.{part-first, part-after, over-more}
-use Rattle.model.specs.Rows.{Dependency, Row, known, newRow, again, counted, arose, deps}
-use Rattle.model.specs.Table.{rowSize, keyWords, rowWords, tableWords}
+use Rattle.model.specs.Rows.{Dependency, Row, known, newRow, again, counted, deps}
+use Rattle.model.specs.Table.{rowSize, keyWords, rowWords, tableWords, keySize, keyAt}
 use Rattle.model.proofs.Rows.{tells-same-dep, tells-known, what-counted, counted-none}
-use Rattle.model.proofs.Table.{key-length, key-once}
-use Rattle.index.specs.Index.{keySize, keyAt}
+use Rattle.model.proofs.Table.{row-length, table-length, key-length, key-once}
 
 abbrev pub Short : List Row → Type 0
 Short rs = (r : Row) → In r rs → length (r .what .held) ≤ 7
-
-row-length : (r : Row) → length (r .what .held) ≤ 7 → length (rowWords r) ≡ rowSize
-row-length r h = length-append (keyWords (r .what)) (r .first ∷ r .times ∷ []) ∙ omega (arith, key-length (r .what) h)
-
-pub table-length : (rs : List Row) → Short rs → length (tableWords rs) ≡ length rs * rowSize
-table-length [] s = refl
-table-length (r ∷ rs) s = length-append (rowWords r) (tableWords rs) ∙ omega (arith, row-length r (s r (inl refl)), table-length rs (λ q i. s q (inr i)))
 
 -- ---- the row in place r: those before it, itself, those after it
 

@@ -20,7 +20,7 @@ use Rattle.laws.specs.Memory.{over}
 use Rattle.model.specs.declared.Event.{Event}
 use Rattle.model.specs.declared.Limits.{Limits}
 use Rattle.model.specs.declared.Reading.{Reading}
-use Rattle.model.specs.Refusals.{Verdict, passes, refuses, number}
+use Rattle.model.specs.Refusals.{passes, refuses, number}
 use Rattle.model.specs.Holds.{Holding, holds}
 use Rattle.model.specs.Rows.{mostRows, Dependency, Row, deps}
 use Rattle.model.specs.Table.{rowSize, tableWords, tableRoom}

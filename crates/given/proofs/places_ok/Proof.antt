@@ -1,17 +1,14 @@
 use native.Mathlib.Omega.{arith}
 use borrow.Author.Needs.{needs}
 -- The places passed are sorted and below `least`, and then unused.
-use Prim.Native.Nat.{ℕ, _+_, _-_, _≤_, _<_}
-use mathlib.Core.Path.{_≡_, refl, sym, ap, subst, _∙_}
+use Prim.Native.Nat.{ℕ, _+_, _-_, _≤_}
+use mathlib.Core.Path.{refl, sym, subst}
 use mathlib.Core.Bool.{false≢true}
-use lib.ListN.{length, getD}
-use Rattle.given.specs.Working.{Sorted, Below, Unused, Places}
+use lib.ListN.{getD}
+use Rattle.given.specs.Working.{Sorted, Below, Unused}
 use Rattle.given.proofs.Places.{sorted-none, sorted-next, below-none, below-next, below-not, unused-next}
 use Rattle.given.proofs.places_ok.Statement.{statement}
 use Rattle.given.proofs.places_ok.Tie as tie
-use Rattle.given.proofs.places_ok.Reads as reads
-use Rattle.given.proofs.places_ok.Lts as lts
-use Rattle.given.proofs.wide.Reads as wide-reads
 
 abbrev Inv-loop : tie.InvT-loop
 Inv-loop table at size wanted least₀ k₀ least k = (k ≤ size) × Sorted table at wanted k × Below table at k least × (least ≤ 65536)

@@ -1,6 +1,6 @@
 use native.Mathlib.Omega.{arith}
 -- Each word is looked at in turn; together they are a fair row's.
-use mathlib.Core.Path.{_≡_, refl, sym, ap, subst, _∙_}
+use mathlib.Core.Path.{_≡_, subst}
 use mathlib.Core.Bool.{true, false≢true}
 use Prim.Native.Nat.{ℕ, _+_, _*_}
 use lib.ListN.{getD}
@@ -9,10 +9,6 @@ use Rattle.given.proofs.Places.{places-well, well-places}
 use borrow.Author.Needs.{needs}
 use Rattle.given.proofs.row_ok.Statement.{statement}
 use Rattle.given.proofs.row_ok.Tie as tie
-use Rattle.given.proofs.row_ok.Reads as reads
-use Rattle.given.proofs.row_ok.Lts as lts
-use Rattle.given.proofs.places_ok.Reads as places-ok-reads
-use Rattle.given.proofs.wide.Reads as wide-reads
 
 mul-at : tie.Need-mul-at
 mul-at c = omega (arith, c .before .pre)

@@ -2,22 +2,17 @@ use native.Mathlib.Omega.{arith}
 use borrow.Author.Needs.{needs}
 -- The rows passed are fair and differ, and the index has them.
 use Prim.Native.Nat.{ℕ, suc, _+_, _*_, _-_, _≤_, _<_}
-use mathlib.Core.Path.{_≡_, refl, sym, ap, subst, _∙_}
+use mathlib.Core.Path.{_≡_, refl, sym, subst, _∙_}
 use mathlib.Core.List.{List}
 use borrow.Author.Tests.{not-true, not-false}
 use lib.ListN.{length, getD, set, length-set, length-replicate}
 use Rattle.laws.proofs.Tests.{never}
-use Rattle.index.specs.Index.{bucketOf, Linked, Found}
+use Rattle.index.specs.Index.{bucketOf, Linked}
 use Rattle.index.proofs.Index.{linked-start, linked-new}
-use Rattle.model.proofs.Given.{keyAt}
+use Rattle.model.specs.Table.{keyAt}
 use Rattle.given.proofs.Tables.{Checked, checked-none, checked-next, not-few, not-room, not-row, not-apart, checked-given, key-now, key-long}
 use Rattle.given.proofs.well_formed.Statement.{statement}
 use Rattle.given.proofs.well_formed.Tie as tie
-use Rattle.given.proofs.well_formed.Reads as reads
-use Rattle.given.proofs.well_formed.Lts as lts
-use Rattle.given.proofs.row_ok.Reads as row-ok-reads
-use Rattle.index.proofs.find.Reads as find-reads
-use Rattle.index.proofs.link.Reads as link-reads
 
 abbrev Inv-loop : tie.InvT-loop
 Inv-loop table rows head₀ next₀ i₀ head next i = (i ≤ rows) × Checked table i × Linked table i head next × (length head ≡ 512) × (length next ≡ 1024)

@@ -1,5 +1,4 @@
-use native.Mathlib.Omega.{arith}
-use mathlib.Core.Path.{_≡_, sym, ap, _∙_}
+use mathlib.Core.Path.{sym, ap, _∙_}
 use mathlib.Core.List.{List}
 use Prim.Native.Nat.{ℕ}
 use borrow.Author.Tests.{not-true, not-false}
@@ -8,10 +7,6 @@ use Rattle.model.proofs.Marks.{marking-small, marking-rows, marking-passes}
 use borrow.Author.Needs.{needs}
 use Rattle.marks.proofs.mark.Statement.{statement}
 use Rattle.marks.proofs.mark.Tie as tie
-use Rattle.marks.proofs.mark.Reads as reads
-use Rattle.marks.proofs.mark.Lts as lts
-use Rattle.given.proofs.well_formed.Reads as well-formed-reads
-use Rattle.marks.proofs.mark_rows.Reads as mark-rows-reads
 
 returns : tie.Need-returns
 returns c =

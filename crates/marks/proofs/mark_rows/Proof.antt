@@ -2,27 +2,23 @@ use native.Mathlib.Omega.{arith}
 use borrow.Author.Needs.{needs}
 -- The page's entries are laid one by one: first the locks' marks, then the rows'.
 use Prim.Native.Nat.{ℕ, _+_, _-_, _≤_, _<_}
-use mathlib.Core.Path.{_≡_, refl, sym, ap, subst, _∙_}
-use mathlib.Core.List.{List, _++_}
-use lib.ListN.{length, take, drop, set}
+use mathlib.Core.Path.{_≡_, sym, ap, subst, _∙_}
+use mathlib.Core.List.{List}
+use lib.ListN.{length, take, set}
 use lib.Seq.{length-take-le}
 use Rattle.laws.specs.Memory.{over}
 use Rattle.laws.proofs.Places.{over-all}
 use Rattle.laws.proofs.Memory.{over-length}
 use Rattle.model.specs.Rows.{Dependency}
-use Rattle.model.specs.Given.{given, depsOf}
+use Rattle.model.specs.Given.{depsOf}
 use Rattle.model.specs.Marking.{mark, lockMarks, pageOf}
 use Rattle.model.specs.Kept.{kept}
-use Rattle.model.proofs.Given.{depAt, Lies, given-lies, given-few, length-deps, deps-at}
+use Rattle.model.proofs.Given.{depAt, given-lies, given-few, length-deps, deps-at}
 use Rattle.model.proofs.Marks.{page-length, row-mark, past-mark}
 use Rattle.marks.specs.Working.{On, Meets, Says}
 use Rattle.marks.proofs.Pages.{front-room, says-kept, paged-start, paged-end, paged-length, paged-locks, paged-next, paged-again, paged-whole}
 use Rattle.marks.proofs.mark_rows.Statement.{statement}
 use Rattle.marks.proofs.mark_rows.Tie as tie
-use Rattle.marks.proofs.mark_rows.Reads as reads
-use Rattle.marks.proofs.mark_rows.Lts as lts
-use Rattle.marks.proofs.row_mark.Reads as row-mark-reads
-use Rattle.marks.proofs.support.mark_locks.Reads as mark-locks-reads
 
 abbrev Inv-loop : tie.InvT-loop
 Inv-loop table rows page₀ i₀ page i = (i ≤ rows) × (page ≡ over (take (256 + i) (pageOf (depsOf rows table))) page₀) × (1280 ≤ length page₀)

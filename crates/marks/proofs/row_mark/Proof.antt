@@ -1,16 +1,11 @@
 use native.Mathlib.Omega.{arith}
-use mathlib.Core.Path.{_≡_, refl, sym, ap, _∙_}
+use mathlib.Core.Path.{refl, sym, ap, _∙_}
 use Prim.Native.Nat.{ℕ}
 use lib.ListN.{getD}
 use Rattle.laws.proofs.Tests.{never}
-use Rattle.model.proofs.Given.{depAt}
 use borrow.Author.Needs.{needs}
 use Rattle.marks.proofs.row_mark.Statement.{statement}
 use Rattle.marks.proofs.row_mark.Tie as tie
-use Rattle.marks.proofs.row_mark.Reads as reads
-use Rattle.marks.proofs.row_mark.Lts as lts
-use Rattle.marks.proofs.support.holds_marked.Reads as holds-marked-reads
-use Rattle.marks.proofs.table.wide.Reads as wide-reads
 
 mul-wide : tie.Need-mul-wide
 mul-wide c = omega (arith, c .before .before .pre .0 .room, c .before .before .good)

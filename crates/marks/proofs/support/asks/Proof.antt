@@ -1,14 +1,8 @@
-use native.Mathlib.Omega.{arith}
-use mathlib.Core.Path.{_≡_, refl, sym, ap, _∙_}
+use mathlib.Core.Path.{sym, _∙_}
 use mathlib.Core.Bool.{false≢true}
-use lib.ListN.{getD}
 use borrow.Author.Needs.{needs}
 use Rattle.marks.proofs.support.asks.Statement.{statement}
 use Rattle.marks.proofs.support.asks.Tie as tie
-use Rattle.marks.proofs.support.asks.Reads as reads
-use Rattle.marks.proofs.support.asks.Lts as lts
-use Rattle.marks.proofs.support.holds_marked.Reads as holds-marked-reads
-use Rattle.marks.proofs.table.wide.Reads as wide-reads
 
 mul-wide : tie.Need-mul-wide
 mul-wide c = search needs

@@ -1,5 +1,5 @@
 use native.Mathlib.Omega.{arith}
-use mathlib.Core.Path.{_≡_, refl, sym, ap, _∙_}
+use mathlib.Core.Path.{_≡_, sym, ap, _∙_}
 use mathlib.Core.Bool.{false≢true}
 use Prim.Native.Nat.{ℕ}
 use lib.ListN.{getD}
@@ -8,9 +8,6 @@ use Rattle.model.proofs.Given.{depAt}
 use borrow.Author.Needs.{needs}
 use Rattle.marks.proofs.support.follows.Statement.{statement}
 use Rattle.marks.proofs.support.follows.Tie as tie
-use Rattle.marks.proofs.support.follows.Reads as reads
-use Rattle.marks.proofs.support.follows.Lts as lts
-use Rattle.marks.proofs.table.wide.Reads as wide-reads
 
 mul-at : tie.Need-mul-at
 mul-at c = omega (arith, c .before .before .pre .0 .room, c .before .before .good)

@@ -11,9 +11,6 @@ use Rattle.marks.specs.Working.{On}
 use Rattle.marks.proofs.Rows.{held-lock, meets-here, meets-none}
 use Rattle.marks.proofs.support.holds_marked.Statement.{statement}
 use Rattle.marks.proofs.support.holds_marked.Tie as tie
-use Rattle.marks.proofs.support.holds_marked.Reads as reads
-use Rattle.marks.proofs.support.holds_marked.Lts as lts
-use Rattle.marks.proofs.table.wide.Reads as wide-reads
 
 abbrev Inv-loop : tie.InvT-loop
 Inv-loop table row locks at size k₀ k = (size ≡ length (depAt table row .held)) × ((j : ℕ) → j < k → On locks (getD table (row * 12 + 3 + j) 0) → ⊥)

@@ -1,17 +1,10 @@
-use native.Mathlib.Omega.{arith}
-use borrow.Author.Needs.{needs}
 -- Locks are taken out until a sweep takes out none: the marks are then K.
-use mathlib.Core.Path.{_≡_, refl, sym, ap, subst, _∙_}
-use lib.ListN.{length}
+use mathlib.Core.Path.{sym, _∙_}
 use Rattle.laws.specs.Memory.{sum}
 use Rattle.marks.specs.Working.{Peeling}
 use Rattle.marks.proofs.Peel.{peel-start, settled, peeled}
 use Rattle.marks.proofs.support.mark_locks.Statement.{statement}
 use Rattle.marks.proofs.support.mark_locks.Tie as tie
-use Rattle.marks.proofs.support.mark_locks.Reads as reads
-use Rattle.marks.proofs.support.mark_locks.Lts as lts
-use Rattle.marks.proofs.support.mark_wanted.Reads as mark-wanted-reads
-use Rattle.marks.proofs.support.sweep.Reads as sweep-reads
 
 abbrev Inv-loop : tie.InvT-loop
 Inv-loop table rows locks₀ askers₀ holders₀ down₀ locks askers holders down = Peeling table rows locks askers holders

@@ -2,18 +2,13 @@ use native.Mathlib.Omega.{arith}
 use borrow.Author.Needs.{needs}
 -- Every lock is unmarked first, and then those that the rows passed want are marked.
 use Prim.Native.Nat.{ℕ, _-_, _≤_, _<_}
-use native.Mathlib.Decide.{ℕ-discrete, decLt}
-use mathlib.Core.Path.{_≡_, refl, sym, ap, subst, _∙_}
-use mathlib.Core.Logic.{inl, inr}
-use lib.ListN.{length, getD, set, length-set, List·getD-eq-default}
+use mathlib.Core.Path.{_≡_, sym, _∙_}
+use lib.ListN.{length, getD, length-set}
 use Rattle.model.proofs.Given.{depAt, Lies, given-lies, given-few}
 use Rattle.marks.specs.Working.{On}
 use Rattle.marks.proofs.Peel.{zeros-next, bits-zero, bits-set, wanted-next}
 use Rattle.marks.proofs.support.mark_wanted.Statement.{statement}
 use Rattle.marks.proofs.support.mark_wanted.Tie as tie
-use Rattle.marks.proofs.support.mark_wanted.Reads as reads
-use Rattle.marks.proofs.support.mark_wanted.Lts as lts
-use Rattle.marks.proofs.table.wide.Reads as wide-reads
 
 abbrev Inv-loop : tie.InvT-loop
 Inv-loop table rows locks₀ i₀ locks i = (length locks ≡ 256) × ((j : ℕ) → j < i → getD locks j 0 ≡ 0)

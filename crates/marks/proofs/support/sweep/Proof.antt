@@ -1,19 +1,13 @@
-use native.Mathlib.Omega.{arith}
 use borrow.Author.Needs.{needs}
 -- The marks peel on, and what was tried so far is tied or was taken out.
 use Prim.Native.Nat.{_-_}
-use mathlib.Core.Path.{_≡_, refl, sym, ap, _∙_}
+use mathlib.Core.Path.{_≡_, sym, _∙_}
 use mathlib.Core.Bool.{true, false}
 use mathlib.Core.Logic.{_⊎_, inl, inr, ⊎-elim}
-use lib.ListN.{length}
 use Rattle.marks.specs.Working.{Peeling, Sweeping}
 use Rattle.marks.proofs.Peel.{sweeping-start, sweeping-next, sweeping-end}
 use Rattle.marks.proofs.support.sweep.Statement.{statement}
 use Rattle.marks.proofs.support.sweep.Tie as tie
-use Rattle.marks.proofs.support.sweep.Reads as reads
-use Rattle.marks.proofs.support.sweep.Lts as lts
-use Rattle.marks.proofs.support.try_lock.Reads as try-lock-reads
-use Rattle.marks.proofs.support.turned.Reads as turned-reads
 
 abbrev Inv-loop : tie.InvT-loop
 Inv-loop table rows down locks₀ askers₀ holders₀ changed₀ i₀ locks askers holders changed i = Peeling table rows locks askers holders × Sweeping table rows down locks₀ locks changed i

@@ -1,15 +1,9 @@
 use native.Mathlib.Omega.{arith}
-use mathlib.Core.Path.{_≡_, refl, sym, ap, subst₂, _∙_}
-use lib.ListN.{length, set, length-set}
 use Rattle.model.proofs.Given.{given-few}
 use Rattle.marks.proofs.Peel.{peel-found, peel-out, tried-found, tried-out, tried-unmarked}
 use borrow.Author.Needs.{needs}
 use Rattle.marks.proofs.support.try_lock.Statement.{statement}
 use Rattle.marks.proofs.support.try_lock.Tie as tie
-use Rattle.marks.proofs.support.try_lock.Reads as reads
-use Rattle.marks.proofs.support.try_lock.Lts as lts
-use Rattle.marks.proofs.support.tying_pair.Reads as tying-pair-reads
-use Rattle.marks.proofs.table.wide.Reads as wide-reads
 
 slice-read-if1 : tie.Need-slice-read-if1
 slice-read-if1 c = omega (arith, c .before .before .before .before .before .pre .1, c .before .before .before .before .before .pre .2 .marks)

@@ -2,23 +2,17 @@ use native.Mathlib.Omega.{arith}
 use borrow.Author.Needs.{needs}
 -- No pair that was passed ties the lock: of the rows that ask for it, and of those that follow the one that is looked at.
 use Prim.Native.Nat.{ℕ, _+_, _*_, _-_, _≤_, _<_}
-use mathlib.Core.Path.{_≡_, refl, sym, ap, _∙_}
-use mathlib.Core.Bool.{true, false}
+use mathlib.Core.Path.{_≡_, sym, _∙_}
 use borrow.Author.Tests.{not-true, not-false}
 use lib.ListN.{length, getD}
 use Rattle.laws.proofs.Tests.{never}
 use Rattle.laws.proofs.Places.{none-next}
-use Rattle.model.proofs.Given.{depAt, Lies, given-lies, given-few, given-room}
+use Rattle.model.proofs.Given.{depAt, Lies, given-lies, given-few}
 use Rattle.marks.specs.Working.{Passed}
 use Rattle.marks.proofs.Rows.{holds-here, holds-none}
 use Rattle.marks.proofs.Peel.{passed-row, passed-holder}
 use Rattle.marks.proofs.support.tying_pair.Statement.{statement}
 use Rattle.marks.proofs.support.tying_pair.Tie as tie
-use Rattle.marks.proofs.support.tying_pair.Reads as reads
-use Rattle.marks.proofs.support.tying_pair.Lts as lts
-use Rattle.marks.proofs.support.asks.Reads as asks-reads
-use Rattle.marks.proofs.support.follows.Reads as follows-reads
-use Rattle.marks.proofs.table.wide.Reads as wide-reads
 
 abbrev Inv-loop2 : tie.InvT-loop2
 Inv-loop2 table rows locks lock r q thread at size k₀ k = (j : ℕ) → j < k → getD table (q * 12 + 3 + j) 0 ≡ lock → ⊥

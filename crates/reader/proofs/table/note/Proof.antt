@@ -4,7 +4,7 @@ use borrow.Author.Needs.{needs}
 use Prim.Native.Nat.{_-_, _≤_, _<_}
 use mathlib.Core.Path.{_≡_}
 use lib.ListN.{length}
-use Rattle.index.specs.Index.{keyAt}
+use Rattle.model.specs.Table.{keyAt}
 use Rattle.reader.proofs.Noting.{links-known, links-new, note-known, note-full, note-new}
 use Rattle.reader.proofs.table.note.Statement.{statement}
 use Rattle.reader.proofs.table.note.Tie as tie

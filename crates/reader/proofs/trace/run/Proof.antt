@@ -1,8 +1,8 @@
 -- The events passed are in the state; the laws of `Running` carry it from one to the next.
 use native.Mathlib.Omega.{arith}
 use borrow.Author.Needs.{needs}
-use Prim.Native.Nat.{_-_, _%_, _<_}
-use mathlib.Core.Path.{_≡_, sym, _∙_}
+use Prim.Native.Nat.{_-_, _<_}
+use mathlib.Core.Path.{sym, _∙_}
 use mathlib.Core.List.{[]}
 use lib.ListN.{length}
 use Rattle.reader.specs.Working.{Did}
