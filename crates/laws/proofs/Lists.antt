@@ -22,7 +22,8 @@ use mathlib.Core.Logic.{◌⊎◌, inl, inr, ⊎_elim}
 use mathlib.Core.List.{List, [], ◌∷◌, ◌++◌, append_assoc, append-nil, map}
 use lib.ListN.{length}
 use lib.Dec.{eqb}
-use Rattle.laws.specs.Tests.{Tells, if◌then◌else◌}
+use Rattle.std.specs.Prelude.{if◌then◌else◌}
+use Rattle.laws.specs.Tests.{Tells}
 use Rattle.laws.specs.Lists.{In, Pairwise, Begins, any, all, pairs, same, cons_if, filter, flat, up_from, below}
 use Rattle.laws.proofs.Tests.{either, never, tells_same, tells_not, tells_or, tells_and, tells_as}
 

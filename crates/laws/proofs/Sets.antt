@@ -14,7 +14,7 @@ use mathlib.Core.List.{List, [], ◌∷◌}
 use lib.ListN.{length}
 use lib.Dec.{eqb, ltb}
 use borrow.Author.Tests.{ltb-true, ltb-false}
-use Rattle.laws.specs.Tests.{if◌then◌else◌}
+use Rattle.std.specs.Prelude.{if◌then◌else◌}
 use Rattle.laws.specs.Lists.{In}
 use Rattle.laws.specs.Sets.{Rising, insert, remove}
 use Rattle.laws.proofs.Tests.{tells_not, tells_same}

@@ -4,8 +4,7 @@
 --     has m xs        the test: m is in
 --     insert m xs     m, which is not in, put in
 --     remove m xs     m taken out
-use Rattle.std.specs.Prelude.{ℕ, ◌<◌, Bool, not, List, [], ◌∷◌, eqb, ltb}
-use Rattle.laws.specs.Tests.{if◌then◌else◌}
+use Rattle.std.specs.Prelude.{ℕ, ◌<◌, Bool, not, List, [], ◌∷◌, eqb, ltb, if◌then◌else◌}
 use Rattle.laws.specs.Lists.{Pairwise, any, filter}
 
 abbrev pub Rising : List ℕ → Type 0

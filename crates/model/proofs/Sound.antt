@@ -4,7 +4,7 @@
 --     Sound n p s          a state after p events: each lock is held by one thread alone, no two rows have one dependency, rows stand in the order of first arising
 --     sound_start          before event 0
 --     sound_after          after an event that passes
-use Prim.Native.Nat.{ℕ, suc, ◌+◌, ◌≤◌, ◌<◌}
+use Prim.Native.Nat.{ℕ, suc, ◌≤◌, ◌<◌}
 use native.Mathlib.Omega.{arith}
 use native.Mathlib.Decide.{ℕ_discrete}
 use mathlib.Core.Path.{◌≡◌, refl, sym, subst, ◌∙◌}
@@ -12,7 +12,8 @@ use mathlib.Core.Bool.{Bool, true, false}
 use mathlib.Core.Logic.{◌⊎◌, inl, inr, ⊎_elim}
 use mathlib.Core.List.{List, [], ◌∷◌, ◌++◌, map}
 use lib.ListN.{length, length-map, length-append}
-use Rattle.laws.specs.Tests.{Tells, if◌then◌else◌, update}
+use Rattle.std.specs.Prelude.{if◌then◌else◌}
+use Rattle.laws.specs.Tests.{Tells, update}
 use Rattle.laws.specs.Lists.{In, Pairwise, below}
 use Rattle.laws.specs.Sets.{Rising}
 use Rattle.laws.proofs.Tests.{either, never, fails, tells_not, tells_same, tells_less, tells_and, update_here, update_there}

@@ -13,7 +13,7 @@ use mathlib.Core.Path.{◌≡◌, refl, sym, ap, subst, ◌∙◌}
 use mathlib.Core.Bool.{Bool, true, false, ◌&&◌}
 use mathlib.Core.Logic.{◌⊎◌, inl, inr, ⊎_elim}
 use mathlib.Core.List.{List, [], ◌∷◌, ◌++◌, map}
-use Rattle.laws.specs.Tests.{if◌then◌else◌}
+use Rattle.std.specs.Prelude.{if◌then◌else◌}
 use Rattle.laws.specs.Lists.{In, Pairwise, cons_if}
 use Rattle.laws.proofs.Tests.{either, never, fails}
 use Rattle.laws.proofs.Lists.{in_map, in_append, in_left, in_right, map_append, pairwise_append}
@@ -142,7 +142,9 @@ times_arose d x p rs a = go (arose_either x p rs) (either (same_dep d x))
 times_row : (rs : List Row) → Apart rs → (r : Row) → In r rs → times_of r.what rs ≡ r.times
 times_row [] a r i = absurd i
 times_row (x ∷ rs) a r (inl e) =
-    rw (e, (tells_same_dep x.what x.what).1 refl) (omega (arith, times_none x.what rs (λ j. a.0 x.what j refl)))
+    let P : Row → Type 0 = λ z. times_of z.what (x ∷ rs) ≡ z.times in
+    let here : P x = rw ((tells_same_dep x.what x.what).1 refl) (omega (arith, times_none x.what rs (λ j. a.0 x.what j refl))) in
+    subst P (sym e) here
 times_row (x ∷ rs) a r (inr i) =
     rw (fails (tells_same_dep r.what x.what) (λ e. a.0 r.what (in_map (λ (z : Row). z.what) r rs i) (sym e))) (omega (arith, times_row rs a.1 r i))
 

@@ -11,7 +11,7 @@ use mathlib.Core.Path.{◌≡◌, refl, sym, ap, ◌∙◌}
 use mathlib.Core.Bool.{Bool, true, false}
 use mathlib.Core.List.{List, [], ◌∷◌, ◌++◌, map}
 use lib.ListN.{length, take, length-map}
-use Rattle.laws.specs.Tests.{if◌then◌else◌}
+use Rattle.std.specs.Prelude.{if◌then◌else◌}
 use Rattle.laws.specs.Lists.{Begins}
 use Rattle.laws.proofs.Lists.{map_in, map_append, begins_itself, begins_longer, begins_through}
 use Rattle.model.specs.declared.Event.{Event}

@@ -6,8 +6,7 @@
 --     taken m h        after an acquire of m: one that is held already changes nothing
 --     released m h     after a release of m: it ends the hold, however often m was acquired
 --     most_held         a thread holds at most so many locks
-use Rattle.std.specs.Prelude.{ℕ, Bool, List, []}
-use Rattle.laws.specs.Tests.{if◌then◌else◌}
+use Rattle.std.specs.Prelude.{ℕ, Bool, List, [], if◌then◌else◌}
 use Rattle.laws.specs.Sets.{has, insert, remove}
 
 abbrev pub most_held : ℕ

@@ -8,8 +8,7 @@
 --     Outcome           what reading answers, and what the lent table holds afterwards; outcome a t: the answer a, and t in the table
 --     told r t          the outcome of reading as r says, with t in the table before
 --     reading b t       the outcome for the image b and the lent table t: its rows' words over t, and nothing else is written
-use Rattle.std.specs.Prelude.{ℕ, List, [], length, ltb}
-use Rattle.laws.specs.Tests.{if◌then◌else◌}
+use Rattle.std.specs.Prelude.{ℕ, List, [], length, ltb, if◌then◌else◌}
 use Rattle.laws.specs.Memory.{over}
 use Rattle.model.specs.declared.Reading.{Reading}
 use Rattle.model.specs.Refusals.{passes, refuses, number, Refusal, Small}

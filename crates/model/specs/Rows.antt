@@ -14,8 +14,7 @@
 --     widest           the limits of any table (`Limits` of src/lib.rt: threads are below `threads`, locks below `locks`)
 --     Fair n d         a dependency within the limits n: H has 1 to 7 locks, rises, and has not the wanted lock in it
 --     WellFormed ds    the dependencies of a well-formed table. Position and occurrences are not looked at
-use Rattle.std.specs.Prelude.{ℕ, ◌+◌, ◌≤◌, ◌<◌, ◌≡◌, Bool, not, ◌&&◌, List, [], ◌∷◌, ◌++◌, map, length, get_or, eqb, leb}
-use Rattle.laws.specs.Tests.{if◌then◌else◌}
+use Rattle.std.specs.Prelude.{ℕ, ◌+◌, ◌≤◌, ◌<◌, ◌≡◌, Bool, not, ◌&&◌, List, [], ◌∷◌, ◌++◌, map, length, get_or, eqb, leb, if◌then◌else◌}
 use Rattle.laws.specs.Lists.{In, Pairwise, any, same}
 use Rattle.laws.specs.Sets.{Rising}
 use Rattle.model.specs.declared.Limits.{Limits}

@@ -11,8 +11,8 @@
 --     Read             how far events were read: the verdict, its place, and the state reached
 --     reads n s p es   the events es from state s and position p on. The first that is refused ends it, in the state before that event
 --     trace n es       all of a trace
-use Rattle.std.specs.Prelude.{ℕ, suc, Bool, not, ◌&&◌, ◌||◌, List, [], ◌∷◌, length, eqb, leb, ltb}
-use Rattle.laws.specs.Tests.{if◌then◌else◌, update}
+use Rattle.std.specs.Prelude.{ℕ, suc, Bool, not, ◌&&◌, ◌||◌, List, [], ◌∷◌, length, eqb, leb, ltb, if◌then◌else◌}
+use Rattle.laws.specs.Tests.{update}
 use Rattle.laws.specs.Lists.{any, below}
 use Rattle.model.specs.declared.Event.{Event}
 use Rattle.model.specs.declared.Limits.{Limits}
