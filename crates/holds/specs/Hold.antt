@@ -4,8 +4,7 @@
 --     in_use s          what stands in the used places
 --     asked_of s m, taken_of s m, released_of s m      what the methods answer
 -- `proofs/Laid.antt` shows that each does to what is laid what the meaning of the trace says.
-use Rattle.std.specs.Prelude.{ℕ, ◌+◌, min, List, ◌++◌, length, take, drop, ltb}
-use Rattle.laws.specs.Tests.{if◌then◌else◌}
+use Rattle.std.specs.Prelude.{ℕ, ◌+◌, min, List, ◌++◌, length, take, drop, ltb, if◌then◌else◌}
 use Rattle.laws.specs.Sets.{has, insert, remove}
 use Rattle.model.specs.Holds.{most_held, Holding, locks}
 use Rattle.model.specs.Table.{padded}

@@ -1,4 +1,6 @@
 // What one thread holds, in eight places. A state goes into each method by value and comes back.
+#![tactic(auto)]
+
 ghost use Rattle.std.specs.Prelude.{◌≡◌, min};
 ghost use Rattle.model.specs.Holds.{nothing, most_held};
 ghost use Rattle.holds.specs.Hold.{laid, asked_of, taken_of, released_of};
@@ -10,14 +12,14 @@ pub const MOST_HELD: usize = 8;
 pub const UNUSED: u16 = 65535;
 
 // The locks in the first `size` places, rising; the other places unused.
-#[derive(Drop)]
+#[derive(Clone, Copy)]
 pub struct Hold {
     pub places: [u16; 8],
     pub size: usize,
 }
 
 // A state that was asked, and whether it holds the lock.
-#[derive(Drop)]
+#[derive(Clone, Copy)]
 pub struct Asked {
     pub hold: Hold,
     pub yes: bool,
