@@ -4,8 +4,7 @@
 --     last_below f n        one more than the last number below n that passes f, or 0 where there is none
 --     Linked ws n head next    the index of n rows: the last row of each bucket, and for each row the one before it in its bucket
 --     Found ws k n r       r is one more than the last of n rows that has the key k, or 0 where none has
-use Rattle.std.specs.Prelude.{ℕ, zero, suc, ◌+◌, ◌*◌, ◌%◌, ◌≤◌, ◌<◌, ◌≡◌, Bool, List, get_or, eqb}
-use Rattle.laws.specs.Tests.{if◌then◌else◌}
+use Rattle.std.specs.Prelude.{ℕ, zero, suc, ◌+◌, ◌*◌, ◌%◌, ◌≤◌, ◌<◌, ◌≡◌, Bool, List, get_or, eqb, if◌then◌else◌}
 use Rattle.model.specs.Table.{key_at}
 
 abbrev pub buckets : ℕ

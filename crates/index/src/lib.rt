@@ -1,5 +1,7 @@
 // An index of the rows of a table by their keys. `head` has the last row of each bucket, and `next` has for each row the one before it in its
 // bucket; a row is given as one more than its number, and 0 is none.
+#![tactic(auto)]
+
 ghost use Rattle.std.specs.Prelude.{◌≡◌, ◌+◌, ◌*◌, ◌≤◌, ◌<◌, length, get_or, set};
 ghost use Rattle.laws.specs.Lists.{same};
 ghost use Rattle.laws.specs.Memory.{part};
