@@ -1,4 +1,6 @@
 // Test 14: whether a table given to a call is well formed.
+#![tactic(auto)]
+
 ghost use Rattle.std.specs.Prelude.{◌≡◌, ◌+◌, ◌*◌, ◌≤◌, ◌<◌, length};
 ghost use Rattle.laws.specs.Tests.{Tells};
 ghost use Rattle.model.specs.Table.{row_size};
