@@ -1,7 +1,7 @@
 -- The mark page, entry by entry.
 --     paged_start, _length, _locks, _next, _whole     the page while it is written, with its first k entries laid over what was lent
 --     says_kept                    what the marks of K say of a row is whether it is kept
-use Prim.Native.Nat.{ℕ, ◌+◌, ◌-◌, ◌≤◌, ◌<◌}
+use Prim.Native.Nat.{ℕ, ◌+◌, ◌≤◌, ◌<◌}
 use native.Mathlib.Omega.{arith}
 use mathlib.Core.Path.{◌≡◌, sym, ap, ◌∙◌}
 use mathlib.Core.Bool.{true, false}
@@ -16,7 +16,7 @@ use Rattle.laws.proofs.Tests.{either, never}
 use Rattle.laws.proofs.Lists.{tells_in}
 use Rattle.laws.proofs.Places.{over_next, over_take, over_over}
 use Rattle.laws.proofs.Memory.{over_length}
-use Rattle.model.specs.Rows.{widest, Dependency, row, Fair}
+use Rattle.model.specs.Rows.{widest, Dependency, Fair}
 use Rattle.model.specs.Kept.{K, kept}
 use Rattle.model.specs.Marking.{mark, lock_marks, page_of}
 use Rattle.model.proofs.Kept.{tells_kept}

@@ -6,7 +6,7 @@
 --     sweeping_start, _next, _end     a sweep
 --     bits_set, on_set, zeros_next, bits_zero, wanted_next     a mark that is put
 --     peeled                   marks that are all tied are those of K
-use Prim.Native.Nat.{ℕ, ◌+◌, ◌-◌, ◌≤◌, ◌<◌}
+use Prim.Native.Nat.{ℕ, ◌+◌, ◌≤◌, ◌<◌}
 use native.Mathlib.Omega.{arith}
 use native.Mathlib.Decide.{ℕ_discrete, dec_lt}
 use mathlib.Core.Path.{◌≡◌, refl, sym, ap, subst, ◌∙◌}

@@ -1,8 +1,10 @@
 -- What the words of a row say of its locks.
 --     held_lock            a place of H has a lock
 --     meets_here, meets_none    whether the row holds a marked lock, by its places
+--     word_lock, word_meets     the same, by the places of the table
 --     holds_here, holds_none    whether it holds a given lock
-use Prim.Native.Nat.{ℕ, ◌+◌, ◌*◌, ◌<◌}
+use Prim.Native.Nat.{ℕ, ◌+◌, ◌*◌, ◌-◌, ◌≤◌, ◌<◌}
+use native.Mathlib.Omega.{arith}
 use mathlib.Core.Path.{◌≡◌, sym, ap, subst, ◌∙◌}
 use mathlib.Core.List.{List}
 use lib.ListN.{length, get_or}
@@ -33,6 +35,16 @@ module _ (t : List ℕ) (i : ℕ) (d : Dependency) (l : Lies t i d) where
 
   pub meets_none : (L : List ℕ) → ((k : ℕ) → k < length d.held → On L (at k) → ⊥) → Meets L d → ⊥
   meets_none L h w = let p = held_place w.0 w.1 in h p.0 p.1 (ap (λ (m : ℕ). get_or L m 0) p.2 ∙ w.2)
+
+  -- the same by the place in the table
+  word_of : (m : ℕ) → i * row_size + 3 ≤ m → m < i * row_size + 3 + length d.held → (k : ℕ) × (k < length d.held) × (at k ≡ get_or t m 0)
+  word_of m a b = let e : i * row_size + 3 + (m - (i * row_size + 3)) ≡ m = omega arith in (m - (i * row_size + 3), omega arith, ap (λ (q : ℕ). get_or t q 0) e)
+
+  pub word_lock : (m : ℕ) → i * row_size + 3 ≤ m → m < i * row_size + 3 + length d.held → get_or t m 0 < 256
+  word_lock m a b = let w = word_of m a b in omega (arith, held_lock w.0 w.1, w.2)
+
+  pub word_meets : (L : List ℕ) (m : ℕ) → i * row_size + 3 ≤ m → m < i * row_size + 3 + length d.held → On L (get_or t m 0) → Meets L d
+  word_meets L m a b o = let w = word_of m a b in meets_here L w.0 w.1 (ap (λ (q : ℕ). get_or L q 0) w.2 ∙ o)
 
   pub holds_here : (m k : ℕ) → k < length d.held → at k ≡ m → In m d.held
   holds_here m k h e = subst (λ (q : ℕ). In q d.held) e (held_in k h)

@@ -12,10 +12,9 @@
 --     Sweeping t n d L M c i    after i locks of a sweep in the direction d from the marks L: M are left, and c says whether any was taken out
 --     Says r P             the mark r says whether P: 1 if it is so, 0 if it is not
 --     turn b i             the lock that comes at i in a sweep upwards or downwards
-use Rattle.std.specs.Prelude.{ℕ, ◌-◌, ◌≤◌, ◌<◌, ◌≡◌, Bool, true, false, List, length, get_or}
+use Rattle.std.specs.Prelude.{ℕ, ◌-◌, ◌≤◌, ◌<◌, ◌≡◌, Bool, true, false, List, length, get_or, if◌then◌else◌}
 use Rattle.laws.specs.Lists.{In}
 use Rattle.laws.specs.Memory.{sum}
-use Rattle.laws.specs.Tests.{if◌then◌else◌}
 use Rattle.model.specs.Rows.{widest, Dependency}
 use Rattle.model.specs.Given.{deps_of}
 use Rattle.model.specs.Tied.{Ties}

@@ -1,4 +1,6 @@
 // Marking: which locks are in K, and which rows are kept.
+#![tactic(auto)]
+
 ghost use Rattle.std.specs.Prelude.{◌≡◌, true, ◌≤◌, length};
 ghost use Rattle.laws.specs.Memory.{over};
 ghost use Rattle.model.specs.Given.{given, deps_of};
@@ -46,6 +48,7 @@ pub fn mark_rows(table: &[u16], rows: usize, page: &mut [u8])
 }
 
 // Writes the mark page of any table that is given, or refuses.
+#[tactic(auto, using(model::proofs::Marks::marking_small, model::proofs::Marks::marking_rows, model::proofs::Marks::marking_passes))]
 pub fn mark(table: &[u16], rows: usize, page: &mut [u8]) -> Marking
     ensures { marked result page.new ≡ marking rows table.now page.old }
 {

@@ -9,13 +9,14 @@ ghost use Rattle.marks.specs.Working.{On, Meets, Asks, Follows, Passed, Found, P
 use crate::table;
 
 // Two rows: one that asks for a lock, and one that holds it.
-#[derive(Drop)]
+#[derive(Clone, Copy)]
 pub(crate) struct Pair {
     pub asker: usize,
     pub holder: usize,
 }
 
 // The row holds a lock that is marked.
+#[tactic(auto, using(crate::proofs::Rows::word_lock, crate::proofs::Rows::word_meets))]
 pub(crate) fn holds_marked(table: &[u16], row: usize, locks: &[u8]) -> bool
     requires { Lies table.now row (dep_at table.now row) × (length locks.now ≡ 256) }
     ensures { Tells result (Meets locks.now (dep_at table.now row)) }
