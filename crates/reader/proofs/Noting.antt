@@ -9,7 +9,7 @@ use mathlib.Core.List.{List, [], ◌∷◌, ◌++◌}
 use borrow.Author.Tests.{le-leb, lt-leb}
 use lib.ListN.{length, get_or, set, length-set, length-append, length-map}
 use lib.Seq.{sets, length-sets}
-use Rattle.laws.specs.Tests.{if◌then◌else◌}
+use Rattle.std.specs.Prelude.{if◌then◌else◌}
 use Rattle.laws.specs.Lists.{In}
 use Rattle.laws.proofs.Lists.{in_map}
 use Rattle.model.specs.Rows.{most_rows, Dependency, Row, known, new_row, counted, full_for, arose, deps}

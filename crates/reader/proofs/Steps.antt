@@ -3,7 +3,7 @@
 --     did_again, did_taken, did_deep, did_first, did_full, did_noted      the ways of an acquire
 --     did_released, did_not_held   the ways of a release
 --     named, did_unnamed, did_unknown     names and kinds
-use Prim.Native.Nat.{ℕ, suc, ◌+◌, ◌-◌, ◌≤◌, ◌<◌}
+use Prim.Native.Nat.{ℕ, suc, ◌+◌, ◌≤◌, ◌<◌}
 use native.Mathlib.Omega.{arith}
 use native.Mathlib.Decide.{ℕ_discrete}
 use mathlib.Core.Path.{◌≡◌, refl, sym, ap, ◌∙◌}
@@ -13,12 +13,12 @@ use mathlib.Core.List.{List, ◌∷◌}
 use borrow.Author.Tests.{eqb-true, lt-ltb, le-ltb, leb-true, leb-false}
 use lib.Dec.{leb}
 use lib.ListN.{length, get_or, take, set}
-use Rattle.laws.specs.Tests.{if◌then◌else◌}
+use Rattle.std.specs.Prelude.{if◌then◌else◌}
 use Rattle.laws.proofs.Tests.{either, fails, tells_not, tells_and, tells_most, tells_itself, update_here}
 use Rattle.model.specs.declared.Event.{Event}
 use Rattle.model.specs.declared.Limits.{Limits}
-use Rattle.model.specs.Refusals.{passes, refuses, number, number_of, Refusal, Kind, Thread, Lock, Taken, Deep, NotHeld, Full}
-use Rattle.model.specs.Holds.{most_held, locks, holds, taken, released}
+use Rattle.model.specs.Refusals.{passes, refuses, number_of, Refusal, Kind, Thread, Lock, Taken, Deep, NotHeld, Full}
+use Rattle.model.specs.Holds.{most_held, locks, taken, released}
 use Rattle.model.specs.Rows.{most_rows, known, full_for, arose}
 use Rattle.model.specs.Table.{key_words}
 use Rattle.model.specs.Trace.{acquires, releases, State, holds_it, elsewhere, dependency, arises, refusal, after}

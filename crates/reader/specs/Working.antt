@@ -9,8 +9,7 @@
 --     Did n s p e ..       what a step answers, and what it leaves
 --     unnamed_of n e        7 for a thread past the limits, then 8 for a lock, otherwise 0
 --     nothing_read k        reading's answer with number k where no event was looked at
-use Rattle.std.specs.Prelude.{ℕ, suc, ◌+◌, ◌*◌, ◌≤◌, ◌<◌, ◌≡◌, List, length, get_or, eqb, leb}
-use Rattle.laws.specs.Tests.{if◌then◌else◌}
+use Rattle.std.specs.Prelude.{ℕ, suc, ◌+◌, ◌*◌, ◌≤◌, ◌<◌, ◌≡◌, List, length, get_or, eqb, leb, if◌then◌else◌}
 use Rattle.laws.specs.Lists.{In, Pairwise}
 use Rattle.laws.specs.Memory.{over}
 use Rattle.model.specs.declared.Event.{Event}

@@ -1,4 +1,6 @@
 // The calls on a trace image: the header call, the notes call, and reading. Each takes any bytes and any table.
+#![tactic(auto)]
+
 ghost use Rattle.std.specs.Prelude.{◌≡◌, ◌+◌, length};
 ghost use Rattle.model.specs.Reading.{header_number, notes_found, notes_place, outcome, reading};
 ghost use Rattle.reader.specs.Working.{nothing_read};

@@ -1,7 +1,6 @@
 // Rows in the lent table, with an index of them (`head`, `next`).
-ghost use Rattle.std.specs.Prelude.{◌≡◌, List, [], ◌∷◌, ◌++◌, ℕ, ◌+◌, ◌≤◌, ◌<◌, length};
+ghost use Rattle.std.specs.Prelude.{◌≡◌, List, [], ◌∷◌, ◌++◌, ℕ, ◌+◌, ◌≤◌, ◌<◌, length, if◌then◌else◌};
 ghost use Rattle.std.proofs.lemmas.List.Edits.{sets};
-ghost use Rattle.laws.specs.Tests.{if◌then◌else◌};
 ghost use Rattle.model.specs.Rows.{Dependency, Row, full_for, arose};
 ghost use Rattle.model.specs.Table.{row_size, key_words};
 ghost use Rattle.index.specs.Index.{Linked};
@@ -31,7 +30,7 @@ fn put(table: &mut [u16], at: usize, key: [u16; 10], place: u16)
     table[at + TIMES] = 1;
 }
 
-#[derive(Drop)]
+#[derive(Clone, Copy)]
 pub(crate) struct Noted {
     pub full: bool,
     pub rows: usize,

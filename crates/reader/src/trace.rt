@@ -15,7 +15,7 @@ use holds::Hold;
 use index::BUCKETS;
 use model::{Event, Limits, Reading};
 
-#[derive(Drop)]
+#[derive(Clone, Copy)]
 pub(crate) struct Stepped {
     pub number: u16,
     pub hold: Hold,
