@@ -6,21 +6,33 @@
 //
 // A line has the number and the place. Where marking passed, it has the marked locks, the kept rows, and the first of the 1,280 marks that is
 // neither 0 nor 1. Its end is the first byte after the marks, or after a refusal the first byte at all, that is not as it was.
+#![tactic(auto)]
+
 ghost use Rattle.std.specs.Prelude.{◌≡◌, ◌≤◌, ◌<◌, length};
 
-use libc::{STDIN_FILENO, STDOUT_FILENO};
+use std::io;
+use std::io::{ErrorKind, Read, Write};
 
 const LOCKS: usize = 256;
 
 const MARKS: usize = 1280;
 
-fn say(text: &[u8]) {
-    io::write_all(STDOUT_FILENO, text);
+fn say<W: Write>(out: &mut W, text: &[u8]) -> io::Result<()> {
+    out.write_all(text)
 }
 
-fn say_number(text: &[u8], n: u64) {
-    say(text);
-    io::print_decimal(STDOUT_FILENO, n);
+fn say_number<W: Write>(out: &mut W, text: &[u8], n: u64) -> io::Result<()> {
+    say(out, text)?;
+    write!(out, "{n}")
+}
+
+// Whether the input had enough bytes to fill the buffer.
+fn read_full<R: Read>(input: &mut R, buffer: &mut [u8]) -> io::Result<bool> {
+    match input.read_exact(buffer) {
+        Ok(()) => Ok(true),
+        Err(e) if e.kind() == ErrorKind::UnexpectedEof => Ok(false),
+        Err(e) => Err(e),
+    }
 }
 
 // The byte that lies at `i` before the call.
@@ -94,30 +106,31 @@ fn first_odd(page: &[u8]) -> usize {
     MARKS
 }
 
-fn say_first(text: &[u8], found: usize, end: usize) {
-    say(text);
+fn say_first<W: Write>(out: &mut W, text: &[u8], found: usize, end: usize) -> io::Result<()> {
+    say(out, text)?;
     if found < end {
-        say_number(b" ", found as u64);
+        say_number(out, b" ", found as u64)
     } else {
-        say(b" none");
+        say(out, b" none")
     }
 }
 
-fn say_mark(n: usize) {
-    say_number(b" ", n as u64);
+fn say_mark<W: Write>(out: &mut W, n: usize) -> io::Result<()> {
+    say_number(out, b" ", n as u64)
 }
 
 // The numbers of the bytes from `from` up to but without `end` that are 1, counted from `from`.
-fn say_marked(page: &[u8], from: usize, end: usize)
+fn say_marked<W: Write>(out: &mut W, page: &[u8], from: usize, end: usize) -> io::Result<()>
     requires { (from ≤ end) × (end ≤ 1280) }
 {
     let mut i = from;
     while i < end {
         if byte_at(page, i) == 1 {
-            say_mark(i - from);
+            say_mark(out, i - from)?;
         }
         i += 1;
     }
+    Ok(())
 }
 
 fn one_if_marked(page: &[u8], i: usize) -> u64
@@ -150,39 +163,52 @@ fn tally_of(page: &[u8], from: usize, end: usize) -> Tally
     }
 }
 
-fn say_tally(page: &[u8], from: usize, end: usize)
+fn say_tally<W: Write>(out: &mut W, page: &[u8], from: usize, end: usize) -> io::Result<()>
     requires { (from ≤ end) × (end ≤ 1280) }
 {
     let t = tally_of(page, from, end);
-    say_number(b" ", t.count);
-    say_number(b" sum ", t.sum);
+    say_number(out, b" ", t.count)?;
+    say_number(out, b" sum ", t.sum)
 }
 
-fn say_part(text: &[u8], page: &[u8], from: usize, end: usize, in_full: bool)
+fn say_part<W: Write>(
+    out: &mut W,
+    text: &[u8],
+    page: &[u8],
+    from: usize,
+    end: usize,
+    in_full: bool,
+) -> io::Result<()>
     requires { (from ≤ end) × (end ≤ 1280) }
 {
-    say(text);
+    say(out, text)?;
     if in_full {
-        say_marked(page, from, end);
+        say_marked(out, page, from, end)
     } else {
-        say_tally(page, from, end);
+        say_tally(out, page, from, end)
     }
 }
 
-fn one_case(table: &[u16], rows: usize, page: &mut [u8], in_full: bool) {
+fn one_case<W: Write>(
+    out: &mut W,
+    table: &[u16],
+    rows: usize,
+    page: &mut [u8],
+    in_full: bool,
+) -> io::Result<()> {
     fill(page);
     let r = marks::mark(table, rows, page);
-    say_number(b"mark ", r.number as u64);
-    say_number(b" ", r.place as u64);
+    say_number(out, b"mark ", r.number as u64)?;
+    say_number(out, b" ", r.place as u64)?;
     let mut written: usize = 0;
     if r.number == 0 {
-        say_part(b" locks", page, 0, LOCKS, in_full);
-        say_part(b" rows", page, LOCKS, MARKS, in_full);
-        say_first(b" odd", first_odd(page), MARKS);
+        say_part(out, b" locks", page, 0, LOCKS, in_full)?;
+        say_part(out, b" rows", page, LOCKS, MARKS, in_full)?;
+        say_first(out, b" odd", first_odd(page), MARKS)?;
         written = MARKS;
     }
-    say_first(b" changed", first_changed(page, written), page.len());
-    say(b"\n");
+    say_first(out, b" changed", first_changed(page, written), page.len())?;
+    say(out, b"\n")
 }
 
 // The words that the bytes are, and 0 from the bytes' end on.
@@ -197,29 +223,36 @@ fn load(table: &mut [u16], bytes: &[u8])
 }
 
 // Whether there was one more case. What it lends are parts of the buffers.
-fn next_case(bytes: &mut [u8], table: &mut [u16], page: &mut [u8]) -> bool
+fn next_case<R: Read, W: Write>(
+    input: &mut R,
+    out: &mut W,
+    bytes: &mut [u8],
+    table: &mut [u16],
+    page: &mut [u8],
+) -> io::Result<bool>
     requires { length table.old ≤ 13000 }
 {
     let mut head = [0u8; 24];
-    if io::read_full(STDIN_FILENO, &mut head) < 24 {
-        return false;
+    if !read_full(input, &mut head)? {
+        return Ok(false);
     }
     let words = least(number_at(&head, 0), table.len());
     let sent = least(number_at(&head, 4) * 2, bytes.len());
     let rows = number_at(&head, 8) + number_at(&head, 12) * 4294967296;
     let length = least(number_at(&head, 16), page.len());
     let in_full = byte_at(&head, 20) == 1;
-    if io::read_full(STDIN_FILENO, &mut bytes[0..sent]) < sent {
-        return false;
+    if !read_full(input, &mut bytes[0..sent])? {
+        return Ok(false);
     }
     load(&mut table[0..words], &bytes[0..sent]);
     one_case(
+        out,
         &table[0..words],
         rows as usize,
         &mut page[0..length],
         in_full,
-    );
-    true
+    )?;
+    Ok(true)
 }
 
 // The `ensures` give the lengths alone, which lending the arrays needs.
@@ -241,12 +274,15 @@ fn page_buffer() -> [u8; 2100]
     [0; 2100]
 }
 
-fn main() {
+fn main(rt: HostRuntime) -> io::Result<()> {
+    let mut input = rt.stdin();
+    let mut out = rt.stdout();
     let mut bytes = bytes_buffer();
     let mut table = table_buffer();
     let mut page = page_buffer();
     let mut turns = u64::MAX;
-    while turns > 0 && next_case(&mut bytes, &mut table, &mut page) {
+    while turns > 0 && next_case(&mut input, &mut out, &mut bytes, &mut table, &mut page)? {
         turns -= 1;
     }
+    Ok(())
 }

@@ -3,17 +3,29 @@
 // A case is four numbers of 4 bytes, low byte first, and then bytes: the image's length (at most 65,600), how many of its bytes are sent (the
 // others are 0), the words of the lent table (at most 13,000), and 1 for rows in full or 0 for their sum. Before each call the lent table holds
 // known words.
+#![tactic(auto)]
+
 ghost use Rattle.std.specs.Prelude.{◌≡◌, ◌≤◌, ◌<◌, length};
 
-use libc::{STDIN_FILENO, STDOUT_FILENO};
+use std::io;
+use std::io::{ErrorKind, Read, Write};
 
-fn say(text: &[u8]) {
-    io::write_all(STDOUT_FILENO, text);
+fn say<W: Write>(out: &mut W, text: &[u8]) -> io::Result<()> {
+    out.write_all(text)
 }
 
-fn say_number(text: &[u8], n: u64) {
-    say(text);
-    io::print_decimal(STDOUT_FILENO, n);
+fn say_number<W: Write>(out: &mut W, text: &[u8], n: u64) -> io::Result<()> {
+    say(out, text)?;
+    write!(out, "{n}")
+}
+
+// Whether the input had enough bytes to fill the buffer.
+fn read_full<R: Read>(input: &mut R, buffer: &mut [u8]) -> io::Result<bool> {
+    match input.read_exact(buffer) {
+        Ok(()) => Ok(true),
+        Err(e) if e.kind() == ErrorKind::UnexpectedEof => Ok(false),
+        Err(e) => Err(e),
+    }
 }
 
 // The word that lies at `i` before the call.
@@ -57,38 +69,40 @@ fn first_changed(table: &[u16], from: usize) -> usize {
     table.len()
 }
 
-fn say_word(word: u16) {
-    say_number(b" ", word as u64);
+fn say_word<W: Write>(out: &mut W, word: u16) -> io::Result<()> {
+    say_number(out, b" ", word as u64)
 }
 
 // The twelve words of a row.
-fn say_words(table: &[u16], at: usize)
+fn say_words<W: Write>(out: &mut W, table: &[u16], at: usize) -> io::Result<()>
     requires { at < 12288 }
 {
     let mut k: usize = 0;
     while k < 12 {
-        say_word(word_at(table, at + k));
+        say_word(out, word_at(table, at + k))?;
         k += 1;
     }
+    Ok(())
 }
 
-fn say_row(table: &[u16], row: usize)
+fn say_row<W: Write>(out: &mut W, table: &[u16], row: usize) -> io::Result<()>
     requires { row < 1024 }
 {
-    say_number(b"  row ", row as u64);
-    say(b":");
-    say_words(table, row * 12);
-    say(b"\n");
+    say_number(out, b"  row ", row as u64)?;
+    say(out, b":")?;
+    say_words(out, table, row * 12)?;
+    say(out, b"\n")
 }
 
-fn say_rows(table: &[u16], rows: usize)
+fn say_rows<W: Write>(out: &mut W, table: &[u16], rows: usize) -> io::Result<()>
     requires { rows ≤ 1024 }
 {
     let mut r: usize = 0;
     while r < rows {
-        say_row(table, r);
+        say_row(out, table, r)?;
         r += 1;
     }
+    Ok(())
 }
 
 // A number that changes with any word before `end`.
@@ -112,28 +126,33 @@ fn sum_bytes(bytes: &[u8]) -> u64 {
     sum
 }
 
-fn one_case(image: &[u8], table: &mut [u16], in_full: bool) {
-    say_number(b"header ", reader::header_refusal(image) as u64);
+fn one_case<W: Write>(
+    out: &mut W,
+    image: &[u8],
+    table: &mut [u16],
+    in_full: bool,
+) -> io::Result<()> {
+    say_number(out, b"header ", reader::header_refusal(image) as u64)?;
     let notes = reader::notes(image);
-    say_number(b" notes ", notes.len() as u64);
-    say_number(b" ", sum_bytes(notes));
+    say_number(out, b" notes ", notes.len() as u64)?;
+    say_number(out, b" ", sum_bytes(notes))?;
     fill(table);
     let r = reader::read(image, table);
-    say_number(b" read ", r.number as u64);
-    say_number(b" ", r.place as u64);
-    say_number(b" ", r.rows as u64);
+    say_number(out, b" read ", r.number as u64)?;
+    say_number(out, b" ", r.place as u64)?;
+    say_number(out, b" ", r.rows as u64)?;
     let rows = least(r.rows as u64, 1024);
     let end = rows * 12;
     let changed = first_changed(table, end);
     if changed < table.len() {
-        say_number(b" changed ", changed as u64);
+        say_number(out, b" changed ", changed as u64)?;
     }
     if in_full {
-        say(b"\n");
-        say_rows(table, rows);
+        say(out, b"\n")?;
+        say_rows(out, table, rows)
     } else {
-        say_number(b" sum ", sum_words(table, end));
-        say(b"\n");
+        say_number(out, b" sum ", sum_words(table, end))?;
+        say(out, b"\n")
     }
 }
 
@@ -161,21 +180,26 @@ fn clear(image: &mut [u8]) {
 }
 
 // Whether there was one more case. The image and the table are parts of the two buffers.
-fn next_case(image: &mut [u8], table: &mut [u16]) -> bool {
+fn next_case<R: Read, W: Write>(
+    input: &mut R,
+    out: &mut W,
+    image: &mut [u8],
+    table: &mut [u16],
+) -> io::Result<bool> {
     let mut head = [0u8; 16];
-    if io::read_full(STDIN_FILENO, &mut head) < 16 {
-        return false;
+    if !read_full(input, &mut head)? {
+        return Ok(false);
     }
     let length = least(number_at(&head, 0), image.len());
     let sent = least(number_at(&head, 4), length);
     let words = least(number_at(&head, 8), table.len());
     let in_full = byte_at(&head, 12) == 1;
     clear(image);
-    if io::read_full(STDIN_FILENO, &mut image[0..sent]) < sent {
-        return false;
+    if !read_full(input, &mut image[0..sent])? {
+        return Ok(false);
     }
-    one_case(&image[0..length], &mut table[0..words], in_full);
-    true
+    one_case(out, &image[0..length], &mut table[0..words], in_full)?;
+    Ok(true)
 }
 
 // The `ensures` give the lengths alone, which lending the arrays needs.
@@ -191,11 +215,14 @@ fn table_buffer() -> [u16; 13000]
     [0; 13000]
 }
 
-fn main() {
+fn main(rt: HostRuntime) -> io::Result<()> {
+    let mut input = rt.stdin();
+    let mut out = rt.stdout();
     let mut image = image_buffer();
     let mut table = table_buffer();
     let mut turns = u64::MAX;
-    while turns > 0 && next_case(&mut image, &mut table) {
+    while turns > 0 && next_case(&mut input, &mut out, &mut image, &mut table)? {
         turns -= 1;
     }
+    Ok(())
 }
