@@ -13,8 +13,16 @@ import sys
 
 TOKEN = re.compile(r"[^\s(){}\[\].,;:|←→↦λ=`]+")
 USE = re.compile(r"^use (\S+?)\.\{([^}]*)\}", re.M)
-# Where the plain respelling is the name of a function of the same crate, or of a definition.
-LEMMAS = {"event-at": "event_at_lem", "row-mark": "row_mark_lem", "in_use": "in_use_places", "none_yet": "none_yet_at"}
+# Where the plain respelling is the name of a function of the same crate, or of a definition, or has the library's old word in it.
+LEMMAS = {
+    "event-at": "event_at_lem",
+    "row-mark": "row_mark_lem",
+    "in_use": "in_use_places",
+    "none_yet": "none_yet_at",
+    "get_d_map": "get_or_map",
+    "getD-below": "get_or_below",
+    "getD-upFrom": "get_or_up_from",
+}
 # A definition and the function that computes it may share a name: they stand in different scopes.
 FUNCTIONS = {"counts_fit", "places_fit"}
 

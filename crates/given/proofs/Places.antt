@@ -1,5 +1,5 @@
 -- The places of a row's H, one after the other, and what they and the other words make of the row.
---     sorted_none, _next, _not     a sorted beginning, with one place more, and where there is none
+--     sorted_none, _next           no words are sorted, and a sorted beginning with one place more
 --     below_none, _next, _not      what is above it
 --     unused_next                  unused places
 --     places_well, well_places     seven places and three words are a fair row's

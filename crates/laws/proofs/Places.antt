@@ -2,8 +2,8 @@
 --     none_next                    what no number below i has, and i has not, no number below i + 1 has
 --     place_in, in_place           the entry in a place stands in the list, and what stands in a list has a place
 --     pairwise_place, place_pairwise    pairs by two places, one before the other
---     get_d_map                     an entry of a list's image
---     get_d_below                   the numbers below n by their places
+--     get_or_map                     an entry of a list's image
+--     get_or_below                   the numbers below n by their places
 --     sum_set                      a list's sum after one entry is put to 0
 --     over_next, over_take, over_over    words laid over memory one by one
 use Prim.Native.Nat.{ℕ, zero, suc, ◌+◌, ◌-◌, ◌≤◌, ◌<◌}
@@ -49,25 +49,25 @@ module _ {A : Type 0} (d : A) where
       (λ y i. let w = in_place xs y i in subst (R x) w.2 (h 0 (suc w.0) (omega arith) (omega (arith, w.1))), place_pairwise R xs (λ i j k l. h (suc i) (suc j) (omega arith) (omega arith)))
 
 -- any default serves within the list
-pub get_d_map : {A B : Type 0} (f : A → B) (d : A) (e : B) (xs : List A) (i : ℕ) → i < length xs → get_or (map f xs) i e ≡ f (get_or xs i d)
-get_d_map f d e [] i h = absurd (let z : ⊥ = omega arith in z)
-get_d_map f d e (x ∷ xs) zero h = refl
-get_d_map f d e (x ∷ xs) (suc i) h = get_d_map f d e xs i (le_of_suc-le-suc h)
+pub get_or_map : {A B : Type 0} (f : A → B) (d : A) (e : B) (xs : List A) (i : ℕ) → i < length xs → get_or (map f xs) i e ≡ f (get_or xs i d)
+get_or_map f d e [] i h = absurd (let z : ⊥ = omega arith in z)
+get_or_map f d e (x ∷ xs) zero h = refl
+get_or_map f d e (x ∷ xs) (suc i) h = get_or_map f d e xs i (le_of_suc-le-suc h)
 
 length_up_from : (n i : ℕ) → length (up_from n i) ≡ n
 length_up_from zero i = refl
 length_up_from (suc n) i = ap suc (length_up_from n (suc i))
 
-get_d_up_from : (n i k : ℕ) → k < n → get_or (up_from n i) k 0 ≡ i + k
-get_d_up_from zero i k h = absurd (let z : ⊥ = omega arith in z)
-get_d_up_from (suc n) i zero h = omega arith
-get_d_up_from (suc n) i (suc k) h = get_d_up_from n (suc i) k (le_of_suc-le-suc h) ∙ omega arith
+get_or_up_from : (n i k : ℕ) → k < n → get_or (up_from n i) k 0 ≡ i + k
+get_or_up_from zero i k h = absurd (let z : ⊥ = omega arith in z)
+get_or_up_from (suc n) i zero h = omega arith
+get_or_up_from (suc n) i (suc k) h = get_or_up_from n (suc i) k (le_of_suc-le-suc h) ∙ omega arith
 
 pub length_below : (n : ℕ) → length (below n) ≡ n
 length_below n = length_up_from n 0
 
-pub get_d_below : (n k : ℕ) → k < n → get_or (below n) k 0 ≡ k
-get_d_below n k h = get_d_up_from n 0 k h ∙ omega arith
+pub get_or_below : (n k : ℕ) → k < n → get_or (below n) k 0 ≡ k
+get_or_below n k h = get_or_up_from n 0 k h ∙ omega arith
 
 pub sum_set : (xs : List ℕ) (i : ℕ) → i < length xs → sum (set xs i 0) + get_or xs i 0 ≡ sum xs
 sum_set [] i h = absurd (let z : ⊥ = omega arith in z)

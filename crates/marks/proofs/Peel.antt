@@ -1,6 +1,6 @@
 -- Taking out locks that no pair of rows ties to the rest.
 --     pair_ties, ties_pair     a pair of rows ties a lock, and what is tied has a pair
---     passed-none, _row, _holder, _fewer    how a search for a pair goes on
+--     passed_start, _row, _holder, _fewer    how a search for a pair goes on
 --     peel_start, _found, _out  the marks at the start, where a pair is found, and where a lock is taken out
 --     tried_found, _out, _unmarked    what trying a lock leaves
 --     sweeping_start, _next, _end     a sweep

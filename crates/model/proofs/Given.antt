@@ -2,7 +2,7 @@
 --     tells_fair, tells_well_formed     the tests of rows
 --     tells_given          the test of the words: they are those of the rows that they are read as
 --     given_rows           and of no others
---     length_rows, rows-at      how many rows are read, and each of them
+--     length_rows, deps_at      how many rows are read, and each of them
 --     RowWell t i          the words in place i are a fair row's
 --     given_few, _room, _row, _apart    what a given table has
 --     given_of             and a table that has it is given

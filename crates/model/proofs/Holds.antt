@@ -1,6 +1,5 @@
 -- What one thread holds after an acquire and after a release, as a set. Whoever reads a trace goes by these laws and not by the definitions.
 --     tells_holds                        the test tells who is in the set
---     locks-nothing
 --     locks_taken_new, locks_taken_again      the set after an acquire of a lock that is not held, and of one that is
 --     locks_released                     the set after a release
 --     taken_swap                         the order of taking is forgotten

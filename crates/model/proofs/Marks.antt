@@ -18,7 +18,7 @@ use Rattle.laws.specs.Memory.{over}
 use Rattle.laws.specs.Sets.{has}
 use Rattle.laws.specs.Tests.{Tells}
 use Rattle.laws.proofs.Lists.{tells_in}
-use Rattle.laws.proofs.Places.{get_d_map, length_below, get_d_below}
+use Rattle.laws.proofs.Places.{get_or_map, length_below, get_or_below}
 use Rattle.model.specs.declared.Marking.{Marking}
 use Rattle.model.specs.Rows.{most_rows, widest, Dependency, blank, row, Row, deps}
 use Rattle.model.specs.Given.{deps_of, Given, given}
@@ -65,7 +65,7 @@ module _ (ds : List Dependency) where
   unfolding lock_marks
   lock_mark m h =
       let l : m < length (below 256) = omega (arith, length_below 256) in
-      get_d_map (λ k. mark (has k (K ds))) 0 0 (below 256) m l ∙ ap (λ k. mark (has k (K ds))) (get_d_below 256 m h)
+      get_or_map (λ k. mark (has k (K ds))) 0 0 (below 256) m l ∙ ap (λ k. mark (has k (K ds))) (get_or_below 256 m h)
 
   after_locks : (i : ℕ) → get_or (page_of ds) (256 + i) 0 ≡ get_or (row_marks ds) i 0
   after_locks i = ap (λ (k : ℕ). get_or (page_of ds) (k + i) 0) (sym locks_length) ∙ get_or-append-add (lock_marks ds) (row_marks ds) i 0
@@ -74,7 +74,7 @@ module _ (ds : List Dependency) where
   unfolding row_marks
   row_mark_lem i h =
       let l : i < length (map (λ d. mark (kept ds d)) ds) = omega (arith, length-map ds (λ d. mark (kept ds d))) in
-      after_locks i ∙ get_or-append (map (λ d. mark (kept ds d)) ds) (replicate (1024 - length ds) 0) 0 i l ∙ get_d_map (λ d. mark (kept ds d)) blank 0 ds i h
+      after_locks i ∙ get_or-append (map (λ d. mark (kept ds d)) ds) (replicate (1024 - length ds) 0) 0 i l ∙ get_or_map (λ d. mark (kept ds d)) blank 0 ds i h
 
   pub past_mark : (i : ℕ) → length ds ≤ i → i < most_rows → get_or (page_of ds) (widest.locks + i) 0 ≡ 0
   unfolding row_marks
