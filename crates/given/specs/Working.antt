@@ -1,24 +1,36 @@
 -- What the private functions of the test say of a row's words. No public contract speaks of it.
---     Sorted t at w k      the k words of t from place `at` on rise, are below 256 and have not w among them
---     Below t at k least   these words are below `least`, which is one more than one of them or 0
---     Unused t at j k      the words from place `at` + j to place `at` + k are unused
---     Places t at n w      of seven words from place `at` on the first n are sorted, and the others unused
-use Rattle.std.specs.Prelude.{ℕ, ◌+◌, ◌≤◌, ◌<◌, ◌≡◌, ◌⊎◌, List, get_or}
-use Rattle.model.specs.Rows.{widest}
-use Rattle.model.specs.Table.{unused}
+--     Locks ws             each of the words ws is the number of a lock
+--     Unused ws            none of them is a lock
+--     Places ps n w        of the seven words ps the first n are locks, rise, and have not w among them, and the others are unused
+--     RowParts ws          of the twelve words ws the thread and the wanted lock are within the limits, and the places are those of 1 to 7 locks
+--     RowWords ws          the twelve words ws are those of the fair row that they are read as
+use Rattle.std.specs.Prelude.{◌≤◌, ◌<◌, ◌≡◌, ℕ, List, get_or, take, drop, slice_index, EachIndex}
+use Rattle.std.specs.List.{Contains}
+use Rattle.std.specs.List.Sorted.{IsStrictlyIncreasing}
+use Rattle.laws.specs.Memory.{part}
+use Rattle.model.specs.Rows.{widest, Fair}
+use Rattle.model.specs.Table.{unused, key_size, key_words}
+use Rattle.model.specs.Given.{row_of}
 
-pub record Sorted (t : List ℕ) (at w k : ℕ) : Type 0 where
-  pub low : (j : ℕ) → j < k → get_or t (at + j) 0 < widest.locks
-  pub other : (j : ℕ) → j < k → get_or t (at + j) 0 ≡ w → ⊥
-  pub rising : (i j : ℕ) → i < j → j < k → get_or t (at + i) 0 < get_or t (at + j) 0
+abbrev pub Locks : List ℕ → Type 0
+Locks ws = EachIndex ws (λ k. slice_index ws k < widest.locks)
 
-pub record Below (t : List ℕ) (at k least : ℕ) : Type 0 where
-  pub all : (j : ℕ) → j < k → get_or t (at + j) 0 < least
-  pub one : (least ≡ 0) ⊎ ((j : ℕ) × (j < k) × (least ≡ get_or t (at + j) 0 + 1))
+abbrev pub Unused : List ℕ → Type 0
+Unused ws = EachIndex ws (λ k. slice_index ws k ≡ unused)
 
-abbrev pub Unused : List ℕ → ℕ → ℕ → ℕ → Type 0
-Unused t at i k = (j : ℕ) → i ≤ j → j < k → get_or t (at + j) 0 ≡ unused
+pub record Places (ps : List ℕ) (n w : ℕ) : Type 0 where
+  pub locks : Locks (take n ps)
+  pub rising : IsStrictlyIncreasing (take n ps)
+  pub other : Contains (take n ps) w → ⊥
+  pub rest : Unused (drop n ps)
 
-pub record Places (t : List ℕ) (at n w : ℕ) : Type 0 where
-  pub sorted : Sorted t at w n
-  pub rest : Unused t at n 7
+pub record RowParts (ws : List ℕ) : Type 0 where
+  pub thread : get_or ws 0 0 < widest.threads
+  pub wanted : get_or ws 1 0 < widest.locks
+  pub some : 1 ≤ get_or ws 2 0
+  pub few : get_or ws 2 0 ≤ 7
+  pub places : Places (part 3 7 ws) (get_or ws 2 0) (get_or ws 1 0)
+
+pub record RowWords (ws : List ℕ) : Type 0 where
+  pub fair : Fair widest (row_of ws).what
+  pub key : key_words (row_of ws).what ≡ take key_size ws

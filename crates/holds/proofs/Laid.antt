@@ -1,12 +1,6 @@
 -- What the methods make of what is laid in the places is what the meaning of a trace says.
-use Prim.Native.Nat.{ℕ, suc, ◌+◌, ◌-◌, ◌≤◌, ◌<◌, min}
-use native.Mathlib.Omega.{arith}
-use mathlib.Core.Path.{◌≡◌, sym, ap, ◌∙◌}
-use mathlib.Core.List.{List}
-use mathlib.Core.Bool.{false}
-use borrow.Author.Tests.{lt-ltb}
-use lib.ListN.{length, drop, replicate}
-use lib.Seq.{take-append_seam, drop-append-add}
+use Rattle.std.proofs.Common.{ℕ, suc, ◌+◌, ◌-◌, ◌≤◌, ◌<◌, min, arith, ◌≡◌, sym, ap, ◌∙◌, List, false, lt-ltb, length, drop, replicate}
+use Rattle.std.proofs.Math.Seq.{take-append_seam, drop-append-add}
 use Rattle.laws.specs.Sets.{insert}
 use Rattle.laws.proofs.Sets.{length_insert}
 use Rattle.model.specs.Holds.{most_held, Holding, locks, holds, taken, released}

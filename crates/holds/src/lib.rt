@@ -1,113 +1,87 @@
-// What one thread holds, in eight places. A state goes into each method by value and comes back.
+//! What one thread holds, in eight places. A state goes into each method by value and comes back.
 #![tactic(auto)]
 
-ghost use Rattle.std.specs.Prelude.{◌≡◌, min};
-ghost use Rattle.model.specs.Holds.{nothing, most_held};
-ghost use Rattle.holds.specs.Hold.{laid, asked_of, taken_of, released_of};
+ghost use Rattle.std.specs.Prelude.{◌≡◌};
+ghost use Rattle.model.specs.Holds.{nothing};
+ghost use Rattle.holds.specs.Hold.{laid, in_use, asked_of, taken_of, released_of};
 
-// A thread holds at most so many locks.
+pub use model::UNUSED;
+
+/// A thread holds at most so many locks.
 pub const MOST_HELD: usize = 8;
 
-// The word in a place that is not used.
-pub const UNUSED: u16 = 65535;
-
-// The locks in the first `size` places, rising; the other places unused.
-#[derive(Clone, Copy)]
+/// The locks in the first `size` places, rising; the other places unused.
+// Places with a size beside them and no `Vec`: a library here has no heap, and a state goes by value (docs/DECISIONS.md, "Forms").
+#[derive(Clone, Copy, Debug, PartialEq, Eq)]
 pub struct Hold {
-    pub places: [u16; 8],
+    pub places: [u16; MOST_HELD],
     pub size: usize,
 }
 
-// A state that was asked, and whether it holds the lock.
-#[derive(Clone, Copy)]
+/// A state that was asked, and whether it holds the lock.
+// A struct and not a `bool` alone: by a rule of the project `ask`, as `take` and `release`, hands the state back (docs/DECISIONS.md, "Forms").
+#[derive(Clone, Copy, Debug, PartialEq, Eq)]
 pub struct Asked {
     pub hold: Hold,
     pub yes: bool,
 }
 
 impl Hold {
-    // Nothing is held.
+    /// Nothing is held.
     pub fn none() -> Hold
         ensures { result ≡ laid nothing }
     {
         Hold {
-            places: [UNUSED; 8],
+            places: [UNUSED; MOST_HELD],
             size: 0,
         }
     }
 
-    // Whether lock `m` is held.
+    /// Whether lock `m` is held.
     pub fn ask(self, m: u16) -> Asked
         ensures { result ≡ asked_of self m }
     {
-        let n = used(self.size);
-        let mut i: usize = 0;
-        while i < n {
-            if self.places[i] == m {
-                return Asked {
-                    hold: self,
-                    yes: true,
-                };
-            }
-            i += 1;
-        }
         Asked {
             hold: self,
-            yes: false,
+            yes: self.used().contains(&m),
         }
     }
 
-    // With lock `m`, which is not held yet. Unchanged where all places are used.
+    /// With lock `m`, which is not held yet. Unchanged where all places are used.
     pub fn take(mut self, m: u16) -> Hold
         ensures { result ≡ taken_of self m }
     {
-        let n = self.size;
-        if MOST_HELD <= n {
+        let last = self.size;
+        if MOST_HELD <= last {
+            // No `Option`: the clause gives this answer for every state, and `take` hands the state back (docs/DECISIONS.md, "Forms").
             return self;
         }
-        let mut carry = m;
-        let mut moving = false;
-        let mut i: usize = 0;
-        while i < n {
-            let x = self.places[i];
-            if moving {
-                self.places[i] = carry;
-                carry = x;
-            } else if carry < x {
-                self.places[i] = carry;
-                carry = x;
-                moving = true;
-            }
-            i += 1;
-        }
-        self.places[n] = carry;
-        self.size = n + 1;
+        // It goes in front of the first lock above it, and those from there on move up by one place.
+        let at = self.used().iter().position(|x| m < *x).unwrap_or(last);
+        self.places[last] = m;
+        self.places[at..=last].rotate_right(1);
+        self.size += 1;
         self
     }
 
-    // Without lock `m`.
+    /// Without lock `m`.
     pub fn release(self, m: u16) -> Hold
         ensures { result ≡ released_of self m }
     {
-        let n = used(self.size);
-        let mut places = [UNUSED; 8];
-        let mut size: usize = 0;
-        let mut i: usize = 0;
-        while i < n {
-            let x = self.places[i];
-            if x != m {
-                places[size] = x;
-                size += 1;
+        let mut left = Hold::none();
+        for x in self.used() {
+            if *x != m {
+                left.places[left.size] = *x;
+                left.size += 1;
             }
-            i += 1;
         }
-        Hold { places, size }
+        left
     }
-}
 
-// How many places are used: never more than there are.
-fn used(size: usize) -> usize
-    ensures { result ≡ min size most_held }
-{
-    if size < MOST_HELD { size } else { MOST_HELD }
+    // The used places: never more than there are, whatever `size` says.
+    fn used(&self) -> &[u16]
+        ensures { result.now ≡ in_use self.now }
+    {
+        &self.places[..self.size.min(MOST_HELD)]
+    }
 }

@@ -1,77 +1,87 @@
-// An index of the rows of a table by their keys. `head` has the last row of each bucket, and `next` has for each row the one before it in its
-// bucket; a row is given as one more than its number, and 0 is none.
+//! An index of the rows of a table by their keys.
 #![tactic(auto)]
 
-ghost use Rattle.std.specs.Prelude.{◌≡◌, ◌+◌, ◌*◌, ◌≤◌, ◌<◌, length, get_or, set};
-ghost use Rattle.laws.specs.Lists.{same};
-ghost use Rattle.laws.specs.Memory.{part};
+ghost use Rattle.std.specs.Prelude.{◌≡◌, List, ℕ, ◌+◌, ◌*◌, ◌≤◌, ◌<◌, length};
 ghost use Rattle.model.specs.Rows.{most_rows};
-ghost use Rattle.model.specs.Table.{row_size, key_size};
-ghost use Rattle.index.specs.Index.{buckets, bucket_of, Linked, Found};
+ghost use Rattle.model.specs.Table.{row_size, key_size, key_at};
+ghost use Rattle.index.specs.Index.{buckets, bucket_of, no_rows, with_row, Indexes, Found};
 
-// Words in a row, and how many of them are its key.
+use model::MOST_ROWS;
+
+/// How many words a row has.
 pub const ROW: usize = 12;
 
+/// How many of them, from the first on, are its key.
 pub const KEY: usize = 10;
 
-// How many entries `head` has.
+/// How many buckets there are.
 pub const BUCKETS: usize = 512;
 
-fn wide(x: u16) -> usize
-    ensures { (result ≡ x) × (result < 65536) }
-{
-    x as usize
+/// An index of a table's rows.
+// An entry is one more than a row's number, and 0 is none: with an `Option` the arrays would be twice as large, and working memory is 4,096 bytes and no more (docs/DECISIONS.md, "Code").
+// Nothing compares or prints it.
+#[derive(Drop)]
+pub struct Index {
+    /// The last row of each bucket.
+    pub head: [u16; BUCKETS],
+    /// For each row the one before it in its bucket.
+    pub next: [u16; MOST_ROWS],
 }
 
-// A key's bucket. Any rule serves that spreads the keys.
+// A key's bucket. Any rule serves that spreads the keys. A key is lent as a slice and not as an array, since a part of a table serves as one as it lies.
+#[tactic(auto, unfolding(crate::specs::Index::bucket_of))]
 fn bucket(key: &[u16]) -> usize
     requires { length key.now ≡ key_size }
-    ensures { (result ≡ bucket_of key.now) × (result < buckets) }
+    ensures value { result ≡ bucket_of key.now }
+    ensures below { result < buckets }
 {
-    let names = wide(key[0]) * 331 + wide(key[1]) * 67;
-    let held = wide(key[3]) * 17 + wide(key[4]) * 29 + wide(key[5]) * 41 + wide(key[6]) * 53;
+    let names = usize::from(key[0]) * 331 + usize::from(key[1]) * 67;
+    let held = usize::from(key[3]) * 17
+        + usize::from(key[4]) * 29
+        + usize::from(key[5]) * 41
+        + usize::from(key[6]) * 53;
     (names + held) % BUCKETS
 }
 
-// The key stands at `at`.
-fn same_at(table: &[u16], at: usize, key: &[u16]) -> bool
-    requires { (at + key_size ≤ length table.now) × (length key.now ≡ key_size) }
-    ensures { result ≡ same (part at key_size table.now) key.now }
-{
-    let mut i: usize = 0;
-    while i < KEY {
-        if table[at + i] != key[i] {
-            return false;
+impl Index {
+    /// The index of no rows, whatever the table is.
+    pub fn new() -> Index
+        ensures empty { result ≡ no_rows }
+        ensures indexes { (ws : List ℕ) → Indexes ws 0 result }
+    {
+        Index {
+            head: [0; BUCKETS],
+            next: [0; MOST_ROWS],
         }
-        i += 1;
     }
-    true
-}
 
-// One more than the number of the last row below `rows` that has the key, or 0 where none has.
-pub fn find(table: &[u16], rows: usize, key: &[u16], head: &[u16], next: &[u16]) -> usize
-    requires { (rows ≤ most_rows) × (rows * row_size ≤ length table.now) × (length key.now ≡ key_size) × (length head.now ≡ buckets) × (length next.now ≡ most_rows) × Linked table.now rows head.now next.now }
-    ensures { Found table.now key.now rows result }
-{
-    let b = bucket(key);
-    let mut k = wide(head[b]);
-    while k != 0 {
-        let r = k - 1;
-        if same_at(table, r * ROW, key) {
-            return k;
+    /// The last row below `rows` that has the key.
+    // Table and row count are arguments and no fields: the table lies in lent memory that is written to between two searches.
+    pub fn find(&self, table: &[u16], rows: usize, key: &[u16]) -> Option<usize>
+        requires within { (rows ≤ most_rows) × (rows * row_size ≤ length table.now) }
+        requires a_key { length key.now ≡ key_size }
+        requires indexed { Indexes table.now rows self.now }
+        ensures { Found table.now key.now rows result }
+    {
+        let mut entry = self.head[bucket(key)];
+        while let Some(row) = usize::from(entry).checked_sub(1) {
+            if &table[row * ROW..row * ROW + KEY] == key {
+                return Some(row);
+            }
+            entry = self.next[row];
         }
-        k = wide(next[r]);
+        None
     }
-    0
-}
 
-// Row `rows`, which has the key, becomes the last of its bucket: it is found from now on.
-pub fn link(key: &[u16], rows: usize, head: &mut [u16], next: &mut [u16])
-    requires { (rows < most_rows) × (length key.now ≡ key_size) × (length head.old ≡ buckets) × (length next.old ≡ most_rows) }
-    ensures head_after { head.new ≡ set head.old (bucket_of key.now) (rows + 1) }
-    ensures next_after { next.new ≡ set next.old rows (get_or head.old (bucket_of key.now) 0) }
-{
-    let b = bucket(key);
-    next[rows] = head[b];
-    head[b] = (rows + 1) as u16;
+    /// Row `rows`, which has the key, becomes the last of its bucket: it is found from now on.
+    pub fn link(&mut self, key: &[u16], rows: usize)
+        requires room { rows < most_rows }
+        requires a_key { length key.now ≡ key_size }
+        ensures { self.new ≡ with_row key.now rows self.old }
+    {
+        let bucket = bucket(key);
+        self.next[rows] = self.head[bucket];
+        // `as` loses nothing here: there are at most 1,024 rows, and a `try_from` would add an error that cannot come.
+        self.head[bucket] = (rows + 1) as u16;
+    }
 }

@@ -5,16 +5,7 @@
 --     rising_one               two rising lists with the same numbers in them are one list
 --     insert_swap              the order of putting in is forgotten
 --     length_insert, length_remove
-use Prim.Native.Nat.{ℕ, suc, ◌≤◌, ◌<◌}
-use native.Mathlib.Omega.{arith}
-use mathlib.Core.Path.{◌≡◌, refl, sym, ap}
-use mathlib.Core.Bool.{Bool, true, false, not}
-use mathlib.Core.Logic.{◌⊎◌, inl, inr, ⊎_elim}
-use mathlib.Core.List.{List, [], ◌∷◌}
-use lib.ListN.{length}
-use lib.Dec.{eqb, ltb}
-use borrow.Author.Tests.{ltb-true, ltb-false}
-use Rattle.std.specs.Prelude.{if◌then◌else◌}
+use Rattle.std.proofs.Common.{ℕ, suc, ◌≤◌, ◌<◌, arith, ◌≡◌, refl, sym, ap, Bool, true, false, not, ◌⊎◌, inl, inr, ⊎_elim, List, [], ◌∷◌, length, eqb, ltb, ltb-true, ltb-false, if◌then◌else◌}
 use Rattle.laws.specs.Lists.{In}
 use Rattle.laws.specs.Sets.{Rising, insert, remove}
 use Rattle.laws.proofs.Tests.{tells_not, tells_same}

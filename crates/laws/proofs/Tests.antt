@@ -8,12 +8,8 @@
 --     fails                a test of what is not so fails
 --     tells_equal          two tests of equivalent propositions are one
 --     update_here, _there  a changed function at the place of the change, and elsewhere
-use Prim.Native.Nat.{ℕ, ◌≤◌, ◌<◌}
-use mathlib.Core.Path.{◌≡◌, refl, sym, ◌∙◌}
-use mathlib.Core.Bool.{Bool, true, false, not, ◌&&◌, ◌||◌, true≢false, false≢true}
-use mathlib.Core.Logic.{◌⊎◌, inl, inr}
-use lib.Dec.{eqb, leb, ltb}
-use borrow.Author.Tests.{eqb-true, eq-eqb, ne_eqb, ltb-true, lt-ltb, leb-true, le-leb}
+use Rattle.std.proofs.Common.{ℕ, ◌≤◌, ◌<◌, ◌≡◌, refl, sym, ◌∙◌, Bool, true, false, not, ◌&&◌, ◌||◌, true≢false, ◌⊎◌, inl, inr, eqb, leb, ltb, eqb-true, eq-eqb, ne_eqb, ltb-true, lt-ltb, leb-true, le-leb}
+use Rattle.std.proofs.lemmas.Bool.{false≢true}
 use Rattle.laws.specs.Tests.{Tells, update}
 
 pub either : (b : Bool) → (b ≡ true) ⊎ (b ≡ false)

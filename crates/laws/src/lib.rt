@@ -1,2 +1,2 @@
-// Mathematics that every other crate cites: definitions in specs/, laws in proofs/. No code.
+//! Mathematics that the libraries here cite: definitions in specs/, laws in proofs/. No code.
 #![tactic(auto)]

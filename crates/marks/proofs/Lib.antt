@@ -1,3 +1,3 @@
-pub mod Rows
 pub mod Peel
+pub mod Search
 pub mod Pages

@@ -1,30 +1,27 @@
--- The mark page, entry by entry.
---     paged_start, _length, _locks, _next, _whole     the page while it is written, with its first k entries laid over what was lent
---     says_kept                    what the marks of K say of a row is whether it is kept
-use Prim.Native.Nat.{ℕ, ◌+◌, ◌≤◌, ◌<◌}
-use native.Mathlib.Omega.{arith}
-use mathlib.Core.Path.{◌≡◌, sym, ap, ◌∙◌}
-use mathlib.Core.Bool.{true, false}
-use mathlib.Core.Logic.{◌⊎◌, inl, inr}
-use mathlib.Core.List.{List, ◌++◌}
-use lib.ListN.{length, get_or, take, drop, set}
-use lib.Seq.{length-take-le, length_front}
+-- The mark page, part by part.
+--     keeps_kept               what the marks of K say of a row is whether it is kept
+--     bool_mark                a test as a byte
+--     row_marked               one more row has its mark
+--     rows_marked              the marks of the rows and the zeros make the second part of the page; both_parts: the two parts make the page
+use Rattle.std.proofs.Common.{ℕ, ◌+◌, ◌-◌, ◌≤◌, ◌<◌, arith, ◌≡◌, refl, sym, ap, ap₂, ◌∙◌, Bool, true, false, ◌⊎◌, inl, inr, ◌↔◌, List, ◌++◌, append_assoc, map, length, get_or, drop, set, replicate, length-append, ext_get_or, get_or-set_same, get_or-set_other, drop-drop, IsTrue}
+use Rattle.std.proofs.lemmas.List.{length-map}
+use Rattle.std.proofs.Math.Decide.{ℕ_discrete}
+use mir.Val.{bool_byte}
 use Rattle.laws.specs.Lists.{In}
 use Rattle.laws.specs.Memory.{over}
 use Rattle.laws.specs.Sets.{has}
-use Rattle.laws.proofs.Tests.{either, never}
+use Rattle.laws.proofs.Tests.{either, tells_equal, tells_itself, tells_as}
 use Rattle.laws.proofs.Lists.{tells_in}
-use Rattle.laws.proofs.Places.{over_next, over_take, over_over}
-use Rattle.laws.proofs.Memory.{over_length}
-use Rattle.model.specs.Rows.{widest, Dependency, Fair}
+use Rattle.laws.proofs.Places.{get_or_map}
+use Rattle.model.specs.Rows.{widest, Dependency, blank, Fair}
+use Rattle.model.specs.Given.{deps_of}
 use Rattle.model.specs.Kept.{K, kept}
-use Rattle.model.specs.Marking.{mark, lock_marks, page_of}
+use Rattle.model.specs.Marking.{mark, lock_marks, row_marks, page_of}
+use Rattle.model.proofs.Given.{dep_at, deps_at, length_deps}
 use Rattle.model.proofs.Kept.{tells_kept}
-use Rattle.model.proofs.Marks.{locks_length, page_locks, page_length, lock_mark}
-use Rattle.marks.specs.Working.{On, Meets, Says}
-
-pub front_room : (M p : List ℕ) → length M ≡ length (take 256 p) → 1280 ≤ length p → 1280 ≤ length (M ++ drop 256 p)
-front_room M p e h = omega (arith, length_front p M 256 e)
+use Rattle.model.proofs.Marks.{locks_length, lock_mark, page_length}
+use Rattle.marks.specs.Working.{On, Meets}
+use Rattle.marks.proofs.Search.{meets_in, in_meets}
 
 module _ (ds : List Dependency) where
   on_in : (m : ℕ) → m < 256 → On (lock_marks ds) m → In m (K ds)
@@ -37,53 +34,53 @@ module _ (ds : List Dependency) where
   in_on : (m : ℕ) → m < 256 → In m (K ds) → On (lock_marks ds) m
   in_on m h i = lock_mark ds m h ∙ ap mark ((tells_in m (K ds)).1 i)
 
-  pub says_kept : (r : ℕ) (d : Dependency) → Fair widest d → Says r (On (lock_marks ds) d.wanted × Meets (lock_marks ds) d) → r ≡ mark (kept ds d)
-  says_kept r d f s = go (either (kept ds d))
+  pub keeps_kept : (b : Bool) (d : Dependency) → Fair widest d → IsTrue b ↔ (On (lock_marks ds) d.wanted × Meets (lock_marks ds) d) → b ≡ kept ds d
+  keeps_kept b d f s =
+      tells_equal
+      (tells_as (tells_itself b)
+      (λ e. let w = s.0 e in
+      let v = meets_in (lock_marks ds) d w.1 in
+      record { wanted = on_in d.wanted f.wanted w.0; lock = v.0; locked = v.1; within = on_in v.0 (f.locks v.0 v.1) v.2 })
+      (λ w. s.1 (in_on d.wanted f.wanted w.wanted, in_meets (lock_marks ds) d w.lock w.locked (in_on w.lock (f.locks w.lock w.locked) w.within))))
+      (tells_kept ds d)
+
+rows_length : (ds : List Dependency) → length ds ≤ 1024 → length (row_marks ds) ≡ 1024
+rows_length ds few = omega (arith, page_length ds few, length-append (lock_marks ds) (row_marks ds), locks_length ds)
+
+-- the two parts of a page
+pub both_parts : (ds : List Dependency) (L M p : List ℕ) → L ≡ lock_marks ds → M ≡ over (row_marks ds) (drop 256 p) → L ++ M ≡ over (page_of ds) p
+both_parts ds L M p e f =
+    let k : 256 + length (row_marks ds) ≡ length (page_of ds) = omega (arith, length-append (lock_marks ds) (row_marks ds), locks_length ds) in
+    ap₂ (λ a b. a ++ b) e f ∙ sym (append_assoc (lock_marks ds) (row_marks ds) (drop (length (row_marks ds)) (drop 256 p)))
+    ∙ ap (λ q. page_of ds ++ q) (drop-drop (length (row_marks ds)) 256 p ∙ ap (λ j. drop j p) k)
+
+pub bool_mark : (b : Bool) → bool_byte b ≡ mark b
+bool_mark true = refl
+bool_mark false = refl
+
+module _ (n : ℕ) (t : List ℕ) where
+  -- the marks of the first i rows
+  abbrev pub RowMarks : List ℕ → ℕ → Type 0
+  RowMarks xs i = (j : ℕ) → j < i → get_or xs j 0 ≡ mark (kept (deps_of n t) (dep_at t j))
+
+  pub row_marked : (xs : List ℕ) (i x : ℕ) → i < length xs → RowMarks xs i → x ≡ mark (kept (deps_of n t) (dep_at t i)) → RowMarks (set xs i x) (i + 1)
+  row_marked xs i x l h e j k = go (ℕ_discrete j i)
     where
-      go : (kept ds d ≡ true) ⊎ (kept ds d ≡ false) → r ≡ mark (kept ds d)
-      go (inl e) =
-          let w = (tells_kept ds d).0 e in
-          s.0 (in_on d.wanted f.wanted w.wanted, (w.lock, w.locked, in_on w.lock (f.locks w.lock w.locked) w.within)) ∙ sym (ap mark e)
-      go (inr e) =
-          s.1 (λ w. never ((tells_kept ds d).1 (record { wanted = on_in d.wanted f.wanted w.0; lock = w.1.0; locked = w.1.1; within = on_in w.1.0 (f.locks w.1.0 w.1.1) w.1.2 })) e)
-          ∙ sym (ap mark e)
+      go : Dec (j ≡ i) → get_or (set xs i x) j 0 ≡ mark (kept (deps_of n t) (dep_at t j))
+      go (yes q) = rw (q, get_or-set_same xs i x 0 l) e
+      go (no q) = get_or-set_other xs i j x 0 q ∙ h j (omega arith)
 
-  -- ---- the page while it is written
+  pub rows_marked : (xs zs p : List ℕ) → n ≤ 1024 → length xs ≡ n → RowMarks xs n → zs ≡ replicate (1024 - n) 0 → xs ++ (zs ++ drop 1024 p) ≡ over (row_marks (deps_of n t)) p
+  unfolding row_marks
+  rows_marked xs zs p few l h z =
+      let M = map (λ d. mark (kept (deps_of n t) d)) (deps_of n t) in
+      let r : xs ≡ M = ext_get_or 0 xs M (l ∙ sym marks_length) (λ j k. let q : j < n = omega (arith, k, l) in h j q ∙ sym (mark_at j q)) in
+      let y : zs ≡ replicate (1024 - length (deps_of n t)) 0 = z ∙ ap (λ k. replicate (1024 - k) 0) (sym (length_deps n t)) in
+      ap₂ (λ a b. a ++ (b ++ drop 1024 p)) r y ∙ sym (append_assoc M (replicate (1024 - length (deps_of n t)) 0) (drop 1024 p))
+      ∙ ap (λ k. row_marks (deps_of n t) ++ drop k p) (sym (rows_length (deps_of n t) (omega (arith, length_deps n t))))
+    where
+      marks_length : length (map (λ d. mark (kept (deps_of n t) d)) (deps_of n t)) ≡ n
+      marks_length = length-map (deps_of n t) (λ d. mark (kept (deps_of n t) d)) ∙ length_deps n t
 
-  module _ (few : length ds ≤ 1024) where
-    -- the locks' marks were laid over p
-    paged_first : (M p : List ℕ) → M ≡ lock_marks ds → M ++ drop 256 p ≡ over (take 256 (page_of ds)) p
-    paged_first M p e = ap (λ (l : List ℕ). l ++ drop 256 p) e ∙ ap (λ (k : ℕ). lock_marks ds ++ drop k p) (sym (locks_length ds)) ∙ ap (λ (l : List ℕ). over l p) (sym (page_locks ds))
-
-    first_length : length (take 256 (page_of ds)) ≡ 256
-    first_length = length-take-le 256 (page_of ds) (omega (arith, page_length ds few))
-
-    pub paged_start : (M p : List ℕ) → M ≡ lock_marks ds → M ++ drop 256 p ≡ over (take 256 (page_of ds)) (M ++ drop 256 p)
-    paged_start M p e = paged_first M p e ∙ sym (over_over (take 256 (page_of ds)) (take 256 (page_of ds)) p (omega arith)) ∙ ap (λ (l : List ℕ). over (take 256 (page_of ds)) l) (sym (paged_first M p e))
-
-    pub paged_end : (M p : List ℕ) → M ≡ lock_marks ds → over (page_of ds) (M ++ drop 256 p) ≡ over (page_of ds) p
-    paged_end M p e = ap (over (page_of ds)) (paged_first M p e) ∙ over_over (take 256 (page_of ds)) (page_of ds) p (omega (arith, page_length ds few, first_length))
-
-    module _ (p : List ℕ) (room : 1280 ≤ length p) (k : ℕ) where
-      taken : k ≤ 1280 → length (take k (page_of ds)) ≡ k
-      taken h = length-take-le k (page_of ds) (omega (arith, page_length ds few))
-
-      pub paged_length : k ≤ 1280 → length (over (take k (page_of ds)) p) ≡ length p
-      paged_length h = over_length (take k (page_of ds)) p (omega (arith, taken h))
-
-      pub paged_locks : 256 ≤ k → k ≤ 1280 → take 256 (over (take k (page_of ds)) p) ≡ lock_marks ds
-      paged_locks l h = over_take (page_of ds) p 256 k l (omega (arith, page_length ds few)) ∙ page_locks ds
-
-      -- what is laid stays as more is laid
-      pub paged_again : k ≤ 1280 → over (take k (page_of ds)) p ≡ over (take k (page_of ds)) (over (take k (page_of ds)) p)
-      paged_again h = sym (over_over (take k (page_of ds)) (take k (page_of ds)) p (omega arith))
-
-      pub paged_whole : k ≤ 1280 → over (page_of ds) (over (take k (page_of ds)) p) ≡ over (page_of ds) p
-      paged_whole h = over_over (take k (page_of ds)) (page_of ds) p (omega (arith, taken h, page_length ds few))
-
-    -- with the mark of row i
-    pub paged_next : (p : List ℕ) → 1280 ≤ length p → (i x : ℕ) → i < 1024 → x ≡ get_or (page_of ds) (256 + i) 0 → set (over (take (256 + i) (page_of ds)) p) (256 + i) x ≡ over (take (256 + (i + 1)) (page_of ds)) p
-    paged_next p room i x h e =
-        let f : 256 + i + 1 ≡ 256 + (i + 1) = omega arith in
-        ap (set (over (take (256 + i) (page_of ds)) p) (256 + i)) e ∙ over_next (page_of ds) p (256 + i) (omega (arith, page_length ds few)) (omega (arith, page_length ds few))
-        ∙ ap (λ (k : ℕ). over (take k (page_of ds)) p) f
+      mark_at : (j : ℕ) → j < n → get_or (map (λ d. mark (kept (deps_of n t) d)) (deps_of n t)) j 0 ≡ mark (kept (deps_of n t) (dep_at t j))
+      mark_at j q = get_or_map (λ d. mark (kept (deps_of n t) d)) blank 0 (deps_of n t) j (omega (arith, length_deps n t)) ∙ ap (λ d. mark (kept (deps_of n t) d)) (deps_at n t j q)

@@ -8,14 +8,8 @@
 --     after_spent, _open, _listed, _full    the next run: the budget is used up, it is not closed, it is written, it has no room
 --     after_not, _fits what a row adds to a run: nothing where it does not fit; else the longer run is visited, and then what extends that
 --     after_begins     what was written stays, in front; after_within, after_room: the budget and the room are kept to
-use Prim.Native.Nat.{ℕ, zero, suc, ◌+◌, ◌-◌, ◌≤◌, ◌<◌}
-use native.Mathlib.Omega.{arith}
-use mathlib.Core.Path.{◌≡◌, refl, sym, ap, ap₂, ◌∙◌}
-use mathlib.Core.Bool.{Bool, true, false}
-use mathlib.Core.List.{List, [], ◌∷◌, ◌++◌, append_assoc, append-nil}
-use lib.ListN.{length, length-append}
-use lib.Dec.{leb}
-use borrow.Author.Tests.{le-leb, lt-leb}
+use Rattle.std.proofs.Common.{ℕ, zero, suc, ◌+◌, ◌-◌, ◌≤◌, ◌<◌, arith, ◌≡◌, refl, sym, ap, ap₂, ◌∙◌, Bool, true, false, List, [], ◌∷◌, ◌++◌, append_assoc, append-nil, length, length-append, leb, le-leb}
+use Rattle.std.proofs.lemmas.Bool.{lt-leb}
 use Rattle.laws.specs.Lists.{flat, Begins}
 use Rattle.laws.proofs.Lists.{flat_append, begins_itself, begins_longer}
 use Rattle.model.specs.Rows.{Dependency}

@@ -6,13 +6,7 @@
 --     chain_tied       they are a tied set, for a chain p
 --     chain_kept       so each of its rows is kept by every set that has the tied sets within
 --     chain_rows_kept  each of its rows passes the test; chain_in_kept: so it stands in the list of kept rows
-use Prim.Native.Nat.{ℕ, ◌≤◌, ◌<◌}
-use native.Mathlib.Omega.{arith}
-use mathlib.Core.Path.{◌≡◌, refl, sym, subst}
-use mathlib.Core.Bool.{true}
-use mathlib.Core.Logic.{inl, inr, ⊎_elim}
-use mathlib.Core.List.{List, [], ◌∷◌, ◌++◌}
-use lib.ListN.{length}
+use Rattle.std.proofs.Common.{ℕ, ◌≤◌, ◌<◌, arith, ◌≡◌, refl, sym, subst, true, inl, inr, ⊎_elim, List, [], ◌∷◌, ◌++◌, length}
 use Rattle.laws.specs.Lists.{In}
 use Rattle.laws.proofs.Lists.{distinct_few}
 use Rattle.model.specs.Rows.{Dependency, row, WellFormed}

@@ -6,17 +6,10 @@
 --     RowWell t i          the words in place i are a fair row's
 --     given_few, _room, _row, _apart    what a given table has
 --     given_of             and a table that has it is given
---     Lies t i d           where each part of the row d lies; well_lies, given_lies: so it is with a fair row, and each row of a given table
-use Prim.Native.Nat.{ℕ, zero, suc, ◌+◌, ◌*◌, ◌-◌, ◌≤◌, ◌<◌}
-use native.Mathlib.Nat.{le_of_suc-le-suc}
-use native.Mathlib.Omega.{arith}
-use mathlib.Core.Path.{◌≡◌, refl, sym, ap, ap₂, subst, ◌∙◌}
-use mathlib.Core.Bool.{true}
-use mathlib.Core.Logic.{inl, inr}
-use mathlib.Core.List.{List, [], ◌∷◌, ◌++◌, append_assoc}
-use lib.Dec.{ltb}
-use lib.ListN.{length, get_or, take, drop, replicate, length-append, length-take, length-drop, length-map, take-append-drop, drop_of_length-le}
-use lib.Seq.{drop-cons, take-take, take_at, drop_at, take-add, take-append_seam, drop-drop, get_or-take, get_or_at}
+--     Lies t i d           where each part of the row d lies; well_lies: so it is with a fair row
+use Rattle.std.proofs.Common.{ℕ, zero, suc, ◌+◌, ◌*◌, ◌-◌, ◌≤◌, ◌<◌, le_of_suc-le-suc, arith, ◌≡◌, refl, sym, ap, ap₂, subst, ◌∙◌, true, inl, inr, List, [], ◌∷◌, ◌++◌, append_assoc, ltb, length, get_or, take, drop, replicate, length-append, length-take, length-drop, take-append-drop, drop_of_length-le, drop-cons, take-take, take_at, drop_at, take-add, drop-drop, get_or-take, not}
+use Rattle.std.proofs.lemmas.List.{length-map, get_or_at}
+use Rattle.std.proofs.Math.Seq.{take-append_seam}
 use Rattle.laws.specs.Tests.{Tells}
 use Rattle.laws.specs.Lists.{In}
 use Rattle.laws.specs.Memory.{part}
@@ -57,7 +50,7 @@ pub tells_well_formed : (ds : List Dependency) → Tells (well_formed ds) (WellF
 tells_well_formed ds =
     tells_as
     (tells_and (tells_most (length ds) most_rows)
-    (tells_and (tells_all (fair widest) (tells_fair widest) ds) (tells_pairs (λ d e. mathlib.Core.Bool.not (same_dep d e)) (λ d e. tells_not (tells_same_dep d e)) ds)))
+    (tells_and (tells_all (fair widest) (tells_fair widest) ds) (tells_pairs (λ d e. not (same_dep d e)) (λ d e. tells_not (tells_same_dep d e)) ds)))
     (λ w. record { few = w.0; fair = w.1.0; apart = w.1.1 })
     (λ w. (w.few, (w.fair, w.apart)))
 
@@ -296,6 +289,3 @@ well_lies t i room W =
         let s : k < get_or ws 2 0 = omega (arith, size, at 2 (omega arith)) in
         let e : i * row_size + 3 + k ≡ i * row_size + (3 + k) = omega arith in
         sym (get_or-take (get_or ws 2 0) (part 3 7 ws) k 0 s ∙ part_at ws 3 7 k m ∙ at (3 + k) (omega arith) ∙ ap (λ (q : ℕ). get_or t q 0) (sym e))
-
-pub given_lies : (n : ℕ) (t : List ℕ) → given n t ≡ true → (i : ℕ) → i < n → Lies t i (dep_at t i)
-given_lies n t g i h = well_lies t i (row_room n t i (given_room n t g) h) (given_row n t g i h)

@@ -3,10 +3,7 @@
 --     locks_taken_new, locks_taken_again      the set after an acquire of a lock that is not held, and of one that is
 --     locks_released                     the set after a release
 --     taken_swap                         the order of taking is forgotten
-use Prim.Native.Nat.{ℕ}
-use mathlib.Core.Path.{◌≡◌, refl, sym, ap, ◌∙◌}
-use mathlib.Core.Logic.{⊎_elim}
-use mathlib.Core.Bool.{true, false}
+use Rattle.std.proofs.Common.{ℕ, ◌≡◌, refl, sym, ap, ◌∙◌, ⊎_elim, true, false}
 use Rattle.laws.specs.Tests.{Tells}
 use Rattle.laws.specs.Lists.{In}
 use Rattle.laws.specs.Sets.{Rising, insert, remove}

@@ -1,12 +1,7 @@
 -- What is so of an image whose header passes.
 --     accepted     the facts that checks 1 to 5 leave
-use Prim.Native.Nat.{ℕ, ◌+◌, ◌*◌, ◌≤◌}
-use mathlib.Core.Path.{◌≡◌, ◌∙◌}
-use mathlib.Core.Bool.{true, false, not}
-use mathlib.Core.List.{List}
-use borrow.Author.Tests.{ltb-false, not-false}
-use lib.ListN.{length}
-use lib.Dec.{ltb}
+use Rattle.std.proofs.Common.{ℕ, ◌+◌, ◌*◌, ◌≤◌, ◌≡◌, ◌∙◌, true, false, not, List, ltb-false, length, ltb}
+use Rattle.std.proofs.lemmas.Bool.{not-false}
 use Rattle.laws.specs.Lists.{same}
 use Rattle.laws.specs.Memory.{part}
 use Rattle.laws.proofs.Tests.{tells_same, tells_most, tells_and}

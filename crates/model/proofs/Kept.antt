@@ -6,13 +6,8 @@
 --     K_untied, K_only     a set with K within: what is not tied to it is not of K, and if it is tied it is K
 --     tells_kept       the test of a kept row
 --     in_kept, kept_in     what stands in kept_rows ds; kept_rising: it rises
-use Prim.Native.Nat.{ℕ, zero, suc, ◌≤◌, ◌<◌}
-use native.Mathlib.Omega.{arith}
-use mathlib.Core.Path.{◌≡◌, refl, sym, ap, subst, ◌∙◌}
-use mathlib.Core.Bool.{true}
-use mathlib.Core.Logic.{⊎_elim, ◌↔◌}
-use mathlib.Core.List.{List, [], ◌∷◌}
-use lib.ListN.{length, length-map}
+use Rattle.std.proofs.Common.{ℕ, zero, suc, ◌≤◌, ◌<◌, arith, ◌≡◌, refl, sym, ap, subst, ◌∙◌, true, ⊎_elim, ◌↔◌, List, [], ◌∷◌, length}
+use Rattle.std.proofs.lemmas.List.{length-map}
 use Rattle.laws.specs.Tests.{Tells}
 use Rattle.laws.specs.Lists.{In, filter, below}
 use Rattle.laws.specs.Sets.{Rising, has}

@@ -1,4 +1,4 @@
--- The computed list of runs is the list that document 01 describes, and no other.
+-- The computed list of runs is the list that the rules describe, and no other.
 --     from_none, from_each     the extensions of a run: of no further row, and of each row that fits with what extends it
 --     runs_every       each run made of the rows us stands in `runs R ds us`
 --     runs_only        nothing else does
@@ -7,14 +7,7 @@
 --     runs_filter      the runs made of some of the rows are those of all runs that are made of them
 --     before_longer, _irreflexive, _asymmetric     the order of runs
 --     before_place     in a list in order, those before a run are those that stand in front of it
-use Prim.Native.Nat.{ℕ, zero, suc, ◌≤◌, ◌<◌}
-use native.Mathlib.Nat.{not-suc-le-zero}
-use native.Mathlib.Omega.{arith}
-use mathlib.Core.Path.{◌≡◌, refl, sym, subst, subst₂, ◌∙◌}
-use mathlib.Core.Bool.{Bool, true, false}
-use mathlib.Core.Logic.{◌⊎◌, inl, inr, ◌↔◌}
-use mathlib.Core.List.{List, [], ◌∷◌, ◌++◌, append_assoc, append-nil}
-use lib.ListN.{length}
+use Rattle.std.proofs.Common.{ℕ, zero, suc, ◌≤◌, ◌<◌, not-suc-le-zero, arith, ◌≡◌, refl, sym, subst, subst₂, ◌∙◌, Bool, true, false, ◌⊎◌, inl, inr, ◌↔◌, List, [], ◌∷◌, ◌++◌, append_assoc, append-nil, length}
 use Rattle.laws.specs.Tests.{Tells}
 use Rattle.laws.specs.Lists.{In, Pairwise, all, filter, flat}
 use Rattle.laws.specs.Sets.{Rising}

@@ -4,30 +4,28 @@
 --     lock_marked, row_marked           by the largest tied set, whichever way it is given: 1 exactly for its locks, and for the rows that it keeps
 --     marking_triples                   two tables with the same triples have the same marks
 --     marking_once                      an outcome settles the answer and every byte of the page
-use Prim.Native.Nat.{ℕ, ◌+◌, ◌-◌, ◌≤◌, ◌<◌}
-use native.Mathlib.Omega.{arith}
-use mathlib.Core.Path.{◌≡◌, refl, sym, ap, ◌∙◌}
-use mathlib.Core.Bool.{Bool, true, false}
-use mathlib.Core.Logic.{◌↔◌}
-use mathlib.Core.List.{List, map}
-use borrow.Author.Tests.{lt-ltb, le-ltb}
-use lib.ListN.{length, get_or, take, replicate, length-append, length-map, length-replicate, get_or-replicate, get_or-append}
-use lib.Seq.{take_at, get_or-append-add}
+--     marks_answer_once                 an answer is settled by its numbers
+--     mark_once                         so an outcome settles what marking answers
+use Rattle.std.proofs.Common.{ℕ, ◌+◌, ◌-◌, ◌≤◌, ◌<◌, arith, ◌≡◌, refl, sym, ap, ◌∙◌, Bool, true, false, ◌↔◌, List, map, lt-ltb, le-ltb, length, get_or, replicate, length-append, get_or-append-add, Result, Ok, Err}
+use Rattle.std.proofs.lemmas.Bool.{false≢true}
+use Rattle.std.proofs.lemmas.List.{length-map, length-replicate, get_or-replicate}
+use Rattle.std.proofs.Math.ListN.{get_or-append}
 use Rattle.laws.specs.Lists.{In, below}
 use Rattle.laws.specs.Memory.{over}
 use Rattle.laws.specs.Sets.{has}
 use Rattle.laws.specs.Tests.{Tells}
 use Rattle.laws.proofs.Lists.{tells_in}
 use Rattle.laws.proofs.Places.{get_or_map, length_below, get_or_below}
-use Rattle.model.specs.declared.Marking.{Marking}
+use Rattle.model.specs.Refusals.{Refusal}
 use Rattle.model.specs.Rows.{most_rows, widest, Dependency, blank, row, Row, deps}
 use Rattle.model.specs.Given.{deps_of, Given, given}
 use Rattle.model.specs.Tied.{Largest, Kept}
 use Rattle.model.specs.Kept.{K, kept}
-use Rattle.model.specs.Marking.{mark, lock_marks, row_marks, page_of, page_room, Marked, marked, marking}
+use Rattle.model.specs.Marking.{mark, lock_marks, row_marks, page_of, page_room, Marking, marks_answer, Marked, marked, marking}
 use Rattle.model.proofs.Given.{given_rows, given_passes}
 use Rattle.model.proofs.Tied.{largest_only}
 use Rattle.model.proofs.Kept.{K_largest, tells_kept}
+use Rattle.model.proofs.Refusals.{number_of_once, number_of_some}
 
 -- ---- each way out
 
@@ -51,9 +49,6 @@ module _ (ds : List Dependency) where
   pub locks_length : length (lock_marks ds) ≡ widest.locks
   unfolding lock_marks
   locks_length = length-map (below 256) (λ m. mark (has m (K ds))) ∙ length_below 256
-
-  pub page_locks : take widest.locks (page_of ds) ≡ lock_marks ds
-  page_locks = take_at (lock_marks ds) (row_marks ds) 256 locks_length
 
   pub page_length : length ds ≤ most_rows → length (page_of ds) ≡ page_room
   unfolding row_marks
@@ -89,7 +84,7 @@ module _ (ds : List Dependency) where
   -- a mark says what its test tells
   mark_tells : (b : Bool) (P : Type 0) → Tells b P → (mark b ≡ 1) ↔ P
   mark_tells true P d = (λ e. d.0 refl, λ p. refl)
-  mark_tells false P d = (λ e. absurd (let z : ⊥ = omega arith in z), λ p. absurd (mathlib.Core.Bool.false≢true (d.1 p)))
+  mark_tells false P d = (λ e. absurd (let z : ⊥ = omega arith in z), λ p. absurd (false≢true (d.1 p)))
 
   module _ (L : ℕ → Type 0) (l : Largest ds L) where
     into : (m : ℕ) → In m (K ds) → L m
@@ -123,3 +118,12 @@ marking_triples n t u p rs qs g h e =
 
 pub marking_once : (x : Marked) (a b : Marking) (p q : List ℕ) → marked a p ≡ x → marked b q ≡ x → (a ≡ b) × (p ≡ q)
 marking_once x a b p q f g = let e = f ∙ sym g in (ap (λ (o : Marked). o.answer) e, ap (λ (o : Marked). o.page) e)
+
+pub marks_answer_once : (a b : Result (Unit {0}) Refusal) → marks_answer a ≡ marks_answer b → a ≡ b
+marks_answer_once (Ok u) (Ok v) e = refl
+marks_answer_once (Ok u) (Err q) e = absurd (number_of_some q (sym (ap (λ (m : Marking). m.number) e)))
+marks_answer_once (Err r) (Ok v) e = absurd (number_of_some r (ap (λ (m : Marking). m.number) e))
+marks_answer_once (Err r) (Err q) e = ap Err (number_of_once r q (ap (λ (m : Marking). m.number) e))
+
+pub mark_once : (x : Marked) (a b : Result (Unit {0}) Refusal) (p q : List ℕ) → marked (marks_answer a) p ≡ x → marked (marks_answer b) q ≡ x → (a ≡ b) × (p ≡ q)
+mark_once x a b p q f g = let w = marking_once x (marks_answer a) (marks_answer b) p q f g in (marks_answer_once a b w.0, w.1)

@@ -6,13 +6,7 @@
 --     kept_safe        the kept rows of a well-formed table are a safe choice
 --     nothing_lost     so `NothingLost` holds
 --     short_chains, short_exact        the short search, complete, lists the chains of the whole table
-use Prim.Native.Nat.{ℕ, ◌≤◌, ◌<◌}
-use native.Mathlib.Omega.{arith}
-use mathlib.Core.Path.{◌≡◌, sym, ap, subst, ◌∙◌}
-use mathlib.Core.Bool.{Bool, true}
-use mathlib.Core.Logic.{◌↔◌}
-use mathlib.Core.List.{List, []}
-use lib.ListN.{length}
+use Rattle.std.proofs.Common.{ℕ, ◌≤◌, ◌<◌, arith, ◌≡◌, sym, ap, subst, ◌∙◌, Bool, true, ◌↔◌, List, [], length}
 use Rattle.laws.specs.Lists.{In, Pairwise, all, filter, Begins}
 use Rattle.laws.specs.Sets.{Rising}
 use Rattle.laws.proofs.Tests.{tells_itself}

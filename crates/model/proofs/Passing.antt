@@ -3,15 +3,8 @@
 --     pass_..       it passes
 --     passed        what is so of an event that passes
 --     after_..      the state after it
-use Prim.Native.Nat.{ℕ, ◌≤◌, ◌<◌}
-use native.Mathlib.Omega.{arith}
-use mathlib.Core.Path.{◌≡◌, refl, ◌∙◌}
-use mathlib.Core.Bool.{Bool, true, false, not, ◌&&◌, ◌||◌, false≢true}
-use mathlib.Core.Logic.{◌⊎◌}
-use lib.ListN.{length}
-use lib.Dec.{eqb, leb}
-use borrow.Author.Tests.{eq-eqb, ne_eqb, le-leb, lt-leb, lt-ltb, le-ltb, leb-false, not-false}
-use Rattle.std.specs.Prelude.{if◌then◌else◌}
+use Rattle.std.proofs.Common.{ℕ, ◌≤◌, ◌<◌, arith, ◌≡◌, refl, ◌∙◌, Bool, true, false, not, ◌&&◌, ◌||◌, ◌⊎◌, length, eqb, leb, eq-eqb, ne_eqb, le-leb, lt-ltb, le-ltb, leb-false, if◌then◌else◌}
+use Rattle.std.proofs.lemmas.Bool.{false≢true, lt-leb, not-false}
 use Rattle.laws.proofs.Tests.{tells_same, tells_or, update_there}
 use Rattle.model.specs.declared.Event.{Event}
 use Rattle.model.specs.declared.Limits.{Limits}

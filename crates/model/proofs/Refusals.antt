@@ -1,13 +1,8 @@
 -- Each refusal has a number of its own, and none has 0. A chain of tests passes where each of them fails.
-use Prim.Native.Nat.{ℕ}
-use native.Mathlib.Omega.{arith}
-use mathlib.Core.Path.{◌≡◌, refl, sym, ap, ◌∙◌}
-use mathlib.Core.Bool.{Bool, true, false}
-use mathlib.Core.List.{List, [], ◌∷◌}
-use lib.ListN.{get_or}
-use Rattle.model.specs.Refusals.{Refusal, Short, Long, Mark, Counts, Places, Kind, Thread, Lock, Taken, Deep, NotHeld, Full, Small, Rows, number_of, Verdict, passes, refuses, number, ◌if◌else◌}
+use Rattle.std.proofs.Common.{ℕ, arith, ◌≡◌, refl, sym, ap, ◌∙◌, Bool, true, false, List, [], ◌∷◌, get_or, Result, Ok, Err, subst}
+use Rattle.model.specs.Refusals.{Refusal, Short, Long, Mark, Counts, Places, Kind, Thread, Lock, Taken, Deep, NotHeld, Full, Small, Rows, number_of, Verdict, passes, refuses, number, verdict_of, ◌if◌else◌}
 
--- document 01's table, read the other way
+-- the table of numbers, read the other way
 abbrev table : List Refusal
 table = Short ∷ Long ∷ Mark ∷ Counts ∷ Places ∷ Kind ∷ Thread ∷ Lock ∷ Taken ∷ Deep ∷ NotHeld ∷ Full ∷ Small ∷ Rows ∷ []
 
@@ -66,8 +61,15 @@ passed (refuses r) = ⊥
 
 pub refuses_passes : (r : Refusal) → refuses r ≡ passes → ⊥
 unfolding passed
-refuses_passes r e = mathlib.Core.Path.subst passed (sym e) tt
+refuses_passes r e = subst passed (sym e) tt
 
 pub if_passes : (r : Refusal) (b : Bool) (v : Verdict) → (r if b else v) ≡ passes → (b ≡ false) × (v ≡ passes)
 if_passes r true v e = absurd (refuses_passes r e)
 if_passes r false v e = (refl, e)
+
+-- what a test answers is settled by its number
+pub verdict_once : (a b : Result (Unit {0}) Refusal) → number (verdict_of a) ≡ number (verdict_of b) → a ≡ b
+verdict_once (Ok u) (Ok v) e = refl
+verdict_once (Ok u) (Err q) e = absurd (number_of_some q (sym e))
+verdict_once (Err r) (Ok v) e = absurd (number_of_some r e)
+verdict_once (Err r) (Err q) e = ap Err (number_of_once r q e)

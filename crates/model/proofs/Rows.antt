@@ -4,15 +4,7 @@
 --     arose_known, arose_new, arose_either     the two cases
 --     deps_counted, firsts_counted, placed_counted      a repeat changes no dependency and no position
 --     counted_none                    and no row of another dependency
-use Prim.Native.Nat.{ℕ, zero, suc, ◌+◌, ◌≤◌, ◌<◌}
-use native.Mathlib.Nat.{le_of_suc-le-suc, not-suc-le-zero}
-use native.Mathlib.Omega.{arith}
-use mathlib.Core.Path.{◌≡◌, refl, sym, ap, ap₂, subst}
-use mathlib.Core.Bool.{Bool, true, false}
-use mathlib.Core.Logic.{inl, inr, ⊎_elim}
-use mathlib.Core.List.{List, [], ◌∷◌, ◌++◌, map}
-use lib.ListN.{length}
-use Rattle.std.specs.Prelude.{if◌then◌else◌}
+use Rattle.std.proofs.Common.{ℕ, zero, suc, ◌+◌, ◌≤◌, ◌<◌, le_of_suc-le-suc, not-suc-le-zero, arith, ◌≡◌, refl, sym, ap, ap₂, subst, Bool, true, false, inl, inr, ⊎_elim, List, [], ◌∷◌, ◌++◌, map, length, if◌then◌else◌}
 use Rattle.laws.specs.Tests.{Tells}
 use Rattle.laws.specs.Lists.{In}
 use Rattle.laws.proofs.Tests.{either, fails, tells_same, tells_and, tells_as}

@@ -3,12 +3,8 @@
 --     tells_closed, tells_fits     the tests of a closed run and of the next row
 --     stands_none      no rows stand; stands_snoc: a row that fits stands after those that do; stands_fits: each row of what stands fits after those before it
 --     last_in, linked_..       of rows next to each other
-use Prim.Native.Nat.{ℕ, ◌<◌}
-use mathlib.Core.Path.{◌≡◌, refl, sym, subst}
-use mathlib.Core.Bool.{false≢true}
-use mathlib.Core.Logic.{◌⊎◌, inl, inr, ⊎_elim}
-use mathlib.Core.List.{List, [], ◌∷◌, ◌++◌}
-use lib.ListN.{length}
+use Rattle.std.proofs.Common.{ℕ, ◌<◌, ◌≡◌, refl, sym, subst, ◌⊎◌, inl, inr, ⊎_elim, List, [], ◌∷◌, ◌++◌, length}
+use Rattle.std.proofs.lemmas.Bool.{false≢true}
 use Rattle.laws.specs.Tests.{Tells}
 use Rattle.laws.specs.Lists.{In, Pairwise, Linked}
 use Rattle.laws.specs.Sets.{has}

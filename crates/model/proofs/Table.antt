@@ -2,13 +2,9 @@
 --     key_length       a key has ten words
 --     row_length, table_length     how many words a row has, and a table
 --     key_once         two dependencies with one key are one
-use Prim.Native.Nat.{ℕ, ◌*◌, ◌-◌, ◌≤◌}
-use native.Mathlib.Omega.{arith}
-use mathlib.Core.Path.{◌≡◌, refl, sym, ap, ap₂, ◌∙◌}
-use mathlib.Core.Logic.{inl, inr}
-use mathlib.Core.List.{List, [], ◌∷◌}
-use lib.ListN.{length, get_or, take, drop, replicate, length-append, length-replicate}
-use lib.Seq.{take-append_seam}
+use Rattle.std.proofs.Common.{ℕ, ◌*◌, ◌-◌, ◌≤◌, arith, ◌≡◌, refl, sym, ap, ap₂, ◌∙◌, inl, inr, List, [], ◌∷◌, length, get_or, take, drop, replicate, length-append}
+use Rattle.std.proofs.lemmas.List.{length-replicate}
+use Rattle.std.proofs.Math.Seq.{take-append_seam}
 use Rattle.laws.specs.Lists.{In}
 use Rattle.model.specs.Rows.{Dependency, Row}
 use Rattle.model.specs.Table.{unused, padded, row_size, key_words, row_words, table_words}

@@ -7,13 +7,7 @@
 --     trace_times             a row's occurrences are how often its dependency arises
 --     trace_first             its position is that of the first such event
 --     trace_rows              a dependency has a row exactly if it arises
-use Prim.Native.Nat.{ℕ, suc, ◌+◌}
-use native.Mathlib.Omega.{arith}
-use mathlib.Core.Path.{◌≡◌, refl, sym, ap, subst, ◌∙◌}
-use mathlib.Core.Bool.{Bool, true, false, ◌&&◌}
-use mathlib.Core.Logic.{◌⊎◌, inl, inr, ⊎_elim}
-use mathlib.Core.List.{List, [], ◌∷◌, ◌++◌, map}
-use Rattle.std.specs.Prelude.{if◌then◌else◌}
+use Rattle.std.proofs.Common.{ℕ, suc, ◌+◌, arith, ◌≡◌, refl, sym, ap, subst, ◌∙◌, Bool, true, false, ◌&&◌, ◌⊎◌, inl, inr, ⊎_elim, List, [], ◌∷◌, ◌++◌, map, if◌then◌else◌}
 use Rattle.laws.specs.Lists.{In, Pairwise, cons_if}
 use Rattle.laws.proofs.Tests.{either, never, fails}
 use Rattle.laws.proofs.Lists.{in_map, in_append, in_left, in_right, map_append, pairwise_append}

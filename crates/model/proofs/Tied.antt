@@ -2,9 +2,7 @@
 --     ties_wider       what ties a lock to a set ties it to any wider set
 --     union_tied       a union of two tied sets is tied; unions_tied: so is one of as many as there are
 --     largest_only     two largest tied sets have the same locks
-use Prim.Native.Nat.{ℕ}
-use mathlib.Core.Logic.{◌⊎◌, inl, inr}
-use mathlib.Core.List.{List}
+use Rattle.std.proofs.Common.{ℕ, ◌⊎◌, inl, inr, List}
 use Rattle.model.specs.Rows.{Dependency}
 use Rattle.model.specs.Tied.{Ties, Tied, Largest}
 

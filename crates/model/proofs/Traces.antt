@@ -5,13 +5,8 @@
 --     reads_more, reads_append a trace and what is added to it
 --     trace_longer             the rows of a longer trace begin with the rows of a shorter one, in all but occurrences
 --     trace_cut                a refusal at an event leaves what the trace cut before that event leaves
-use Prim.Native.Nat.{ℕ, suc, ◌+◌, ◌≤◌, ◌<◌}
-use native.Mathlib.Omega.{arith}
-use mathlib.Core.Path.{◌≡◌, refl, sym, ap, ◌∙◌}
-use mathlib.Core.Bool.{Bool, true, false}
-use mathlib.Core.List.{List, [], ◌∷◌, ◌++◌, map}
-use lib.ListN.{length, take, length-map}
-use Rattle.std.specs.Prelude.{if◌then◌else◌}
+use Rattle.std.proofs.Common.{ℕ, suc, ◌+◌, ◌≤◌, ◌<◌, arith, ◌≡◌, refl, sym, ap, ◌∙◌, Bool, true, false, List, [], ◌∷◌, ◌++◌, map, length, take, if◌then◌else◌}
+use Rattle.std.proofs.lemmas.List.{length-map}
 use Rattle.laws.specs.Lists.{Begins}
 use Rattle.laws.proofs.Lists.{map_in, map_append, begins_itself, begins_longer, begins_through}
 use Rattle.model.specs.declared.Event.{Event}

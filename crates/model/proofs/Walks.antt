@@ -4,15 +4,7 @@
 --     walk_within      no walk takes more steps than its budget; walk_fits: none writes more words than it has room for
 --     walk_fewer       runs that are not closed may be left out: what is listed is listed first
 --     walk_more        a larger budget only lengthens what is listed
-use Prim.Native.Nat.{ℕ, zero, suc, ◌+◌, ◌-◌, ◌≤◌}
-use native.Mathlib.Omega.{arith}
-use mathlib.Core.Path.{◌≡◌, refl, sym, ap, subst, ◌∙◌}
-use mathlib.Core.Bool.{Bool, true, false}
-use mathlib.Core.Logic.{inl, inr}
-use mathlib.Core.List.{List, [], ◌∷◌, ◌++◌, append-nil}
-use lib.ListN.{length, length-append}
-use lib.Dec.{leb}
-use borrow.Author.Tests.{leb-true, leb-false}
+use Rattle.std.proofs.Common.{ℕ, zero, suc, ◌+◌, ◌-◌, ◌≤◌, arith, ◌≡◌, refl, sym, ap, subst, ◌∙◌, Bool, true, false, inl, inr, List, [], ◌∷◌, ◌++◌, append-nil, length, length-append, leb, leb-true, leb-false}
 use Rattle.laws.specs.Lists.{In, cons_if, filter, Begins}
 use Rattle.laws.proofs.Tests.{never}
 use Rattle.laws.proofs.Lists.{filter_all, begins_none, begins_cons}

@@ -1,4 +1,4 @@
--- The answer so far as a state that runs move on, list after list (document 01, "Runs, chains and steps": each next run is visited after those before it).
+-- The answer so far as a state that runs move on, list after list (docs/RULES.md, "Runs, chains and steps": each next run is visited after those before it).
 --     ends e a         the answer a, ended with e
 --     writes p a       the answer a after one step more, at which the chain p is written behind the others
 --     goes_on e a a'    a where it has ended otherwise than Complete, and else a' behind a

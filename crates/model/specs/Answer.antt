@@ -1,4 +1,4 @@
--- What a search answers: it visits a list of runs under a budget of steps and a room of words (document 01, "Runs, chains and steps").
+-- What a search answers: it visits a list of runs under a budget of steps and a room of words (docs/RULES.md, "Runs, chains and steps").
 --     Ending           Complete, Spent or NoRoom
 --     Answer           the ending, the chains written, and the steps
 --     ended e n        ended with e after n steps, with no chain written

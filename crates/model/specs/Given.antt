@@ -1,4 +1,4 @@
--- A table that is given to a call (document 01, "Well formed").
+-- A table that is given to a call (docs/RULES.md, "Well formed").
 --     row_of ws         the row that twelve words write
 --     rows_of n t       the n rows that the words t begin with
 --     deps_of n t       their dependencies

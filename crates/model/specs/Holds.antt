@@ -1,4 +1,4 @@
--- What one thread holds (document 01, "From events to rows"). What begins and what ends a hold is said here and nowhere else.
+-- What one thread holds (docs/RULES.md, "From events to rows"). What begins and what ends a hold is said here and nowhere else.
 --     Holding          what one thread holds
 --     nothing          before event 0
 --     locks h          H, the set of the locks that are held

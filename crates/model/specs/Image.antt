@@ -1,4 +1,4 @@
--- The trace image: what its bytes say (document 01, "The trace image"). An image is the list of its bytes.
+-- The trace image: what its bytes say (docs/RULES.md, "The trace image"). An image is the list of its bytes.
 --     mark             the four bytes that an image begins with
 --     header_size, event_size     how many bytes the header has, and an event
 --     threads, locks, events, offset, whole     the header's numbers T, M, E, O and the whole length

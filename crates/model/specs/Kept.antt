@@ -1,4 +1,4 @@
--- The largest tied set and the kept rows, computed (document 01, "Which rows are kept"): of the locks that are wanted, those that are not tied to the
+-- The largest tied set and the kept rows, computed (docs/RULES.md, "Which rows are kept"): of the locks that are wanted, those that are not tied to the
 -- rest are taken out, again and again. A set of locks is a list L.
 --     meets L d        the test: row d holds a lock of L
 --     backs L m d e    the test: row e holds m, wants a lock of L, and is of another thread than row d

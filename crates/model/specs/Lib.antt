@@ -1,4 +1,5 @@
 pub mod Refusals
+pub mod Kinds
 pub mod Holds
 pub mod Rows
 pub mod Trace

@@ -1,28 +1,16 @@
--- The numbers that a call can refuse with (document 01, "Numbers a call can refuse with").
---     Refusal          each refusal by its name
---     number_of r       its number
+-- The numbers that a call can refuse with (docs/RULES.md, "Numbers a call can refuse with"). Each refusal has a name (`Refusal` of src/lib.rt).
+--     number_of r      its number
 --     Verdict          what is tested passes, or is refused
 --     number v         0 where it passes, otherwise the refusal's number
+--     refused_at_once r    refused with r before the first event, so with no row
+--     verdict_of a     the verdict that a test answers: `Ok` where it passes, and otherwise the refusal
 --     r if b else v    refused with r where the test b passes, otherwise as v says. A chain of these is tests in order: the first that passes decides
-use Rattle.std.specs.Prelude.{ℕ, Bool, true, false}
+use Rattle.std.specs.Prelude.{ℕ, Bool, true, false, Result, Ok, Err}
+pub use Rattle.model.specs.declared.Refusal.{Refusal}
+use Rattle.model.specs.declared.Refused.{Refused}
+pub use Rattle.model.specs.declared.Refusal.TheVariants.{Short, Long, Mark, Counts, Places, Kind, Thread, Lock, Taken, Deep, NotHeld, Full, Small, Rows}
 
 infixr 1 ◌if◌else◌
-pub data Refusal : Type 0 where
-  Short : Refusal
-  Long : Refusal
-  Mark : Refusal
-  Counts : Refusal
-  Places : Refusal
-  Kind : Refusal
-  Thread : Refusal
-  Lock : Refusal
-  Taken : Refusal
-  Deep : Refusal
-  NotHeld : Refusal
-  Full : Refusal
-  Small : Refusal
-  Rows : Refusal
-
 abbrev pub number_of : Refusal → ℕ
 number_of Short = 1
 number_of Long = 2
@@ -50,3 +38,10 @@ number (refuses r) = number_of r
 abbrev pub ◌if◌else◌ : Refusal → Bool → Verdict → Verdict
 r if true else v = refuses r
 r if false else v = v
+
+abbrev pub verdict_of : Result (Unit {0}) Refusal → Verdict
+verdict_of (Ok u) = passes
+verdict_of (Err r) = refuses r
+
+abbrev pub refused_at_once : Refusal → Refused
+refused_at_once r = record { refusal = r; place = 0; rows = 0 }

@@ -1,4 +1,4 @@
--- Dependencies and rows (document 01, "From events to rows"), and well-formed tables ("Well formed").
+-- Dependencies and rows (docs/RULES.md, "From events to rows"), and well-formed tables ("Well formed").
 --     Dependency       the triple (t, m, H): thread t wanted lock m and held the set H
 --     row ds i         the dependency of number i; past the end stands `blank`, which holds nothing
 --     Row              a dependency, the position of its first arising, and how often it arose

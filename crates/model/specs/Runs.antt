@@ -1,4 +1,4 @@
--- Runs, closed runs and their order (document 01, "Runs, chains and steps"). A run of a table with the dependencies ds is a list of row numbers.
+-- Runs, closed runs and their order (docs/RULES.md, "Runs, chains and steps"). A run of a table with the dependencies ds is a list of row numbers.
 --     most_run          a run has at most so many rows
 --     Rule             which two rows may stand in one run: `Beside`, and its test `beside`. All else is the same for every list of chains
 --     Decides R        the test tells which

@@ -1,4 +1,4 @@
--- The two searches, and what is lost by searching kept rows alone: nothing (document 01, "Runs, chains and steps"). For any rule R of which two rows
+-- The two searches, and what is lost by searching kept rows alone: nothing (docs/RULES.md, "Runs, chains and steps"). For any rule R of which two rows
 -- may stand in one run, and any words `lay p` that a chain p is written as.
 --     chain_words p         the words of a chain in the base: its length and its row numbers
 --     chains_of R ds us     the chains made of the rows us, in order

@@ -1,4 +1,4 @@
--- How rows lie in a lent table of 16-bit words (document 01, "From events to rows").
+-- How rows lie in a lent table of 16-bit words (docs/RULES.md, "From events to rows").
 --     unused            the word in a place that is not used
 --     padded n xs       xs in n places, the others unused
 --     key_words d        a dependency's words: thread, wanted lock, size of H, seven places for H

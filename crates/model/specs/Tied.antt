@@ -1,4 +1,4 @@
--- Tied sets of locks, the largest of them, and the rows that it keeps (document 01, "Which rows are kept"). A set of locks is S : ℕ → Type 0.
+-- Tied sets of locks, the largest of them, and the rows that it keeps (docs/RULES.md, "Which rows are kept"). A set of locks is S : ℕ → Type 0.
 --     Ties ds S m      some row wants lock m and holds a lock of S, some row holds m and wants a lock of S, and their threads differ
 --     Tied ds S        this is so of each lock of S
 --     Largest ds K     K is tied, and every tied set lies within K

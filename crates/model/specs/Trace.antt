@@ -1,4 +1,4 @@
--- What a recorded trace means: a fold of its events over what the threads hold and the rows so far (document 01, "From events to rows").
+-- What a recorded trace means: a fold of its events over what the threads hold and the rows so far (docs/RULES.md, "From events to rows").
 --     acquires, releases     the tests of an event's kind (`Event` of src/lib.rt: kind, thread, lock, and a site that no rule reads)
 --     State            what each thread holds, and the rows so far; `start`: before event 0
 --     holds_it s e      the test: the event's thread holds the event's lock

@@ -1,228 +1,123 @@
-// Says of each case on standard input what the three calls on an image answer and leave.
-//
-// A case is four numbers of 4 bytes, low byte first, and then bytes: the image's length (at most 65,600), how many of its bytes are sent (the
-// others are 0), the words of the lent table (at most 13,000), and 1 for rows in full or 0 for their sum. Before each call the lent table holds
-// known words.
+//! Says of each case on standard input what the three calls on an image answer and leave.
+//!
+//! A case is four numbers of 4 bytes, low byte first, and then bytes: the image's length (at most 65,600), how many of its bytes are sent (the
+//! others are 0), the words of the lent table (at most 13,000), and 1 for rows in full or 0 for their sum. Before each call the lent table holds
+//! known words.
 #![tactic(auto)]
 
-ghost use Rattle.std.specs.Prelude.{◌≡◌, ◌≤◌, ◌<◌, length};
+ghost use Rattle.std.specs.Prelude.{◌≡◌, ◌≤◌, length};
+ghost use Rattle.cases.specs.declared.TheConstants.{MOST_WORDS};
+ghost use Rattle.read_cases.specs.declared.TheConstants.{MOST_BYTES};
 
-use std::io;
-use std::io::{ErrorKind, Read, Write};
+use cases::{MOST_WORDS, checksum, first_changed, read_numbers, read_whole};
+use index::ROW;
+use model::Refusal;
+use std::io::Write;
+use std::{array, io};
 
-fn say<W: Write>(out: &mut W, text: &[u8]) -> io::Result<()> {
-    out.write_all(text)
+const MOST_BYTES: usize = 65_600;
+
+// What the numbers before a case say of it. They are cast to `usize` by `as`, for which Rust has no `From<u32>`.
+// Nothing compares or prints it.
+#[derive(Clone, Copy)]
+struct Header {
+    length: usize,
+    sent: usize,
+    words: usize,
+    // A number of the case, which picks what is said and no step of the calls.
+    in_full: bool,
+    ghost image_fits: { length ≤ MOST_BYTES },
+    ghost sent_fits: { sent ≤ length },
+    ghost table_fits: { words ≤ MOST_WORDS },
 }
 
-fn say_number<W: Write>(out: &mut W, text: &[u8], n: u64) -> io::Result<()> {
-    say(out, text)?;
-    write!(out, "{n}")
-}
-
-// Whether the input had enough bytes to fill the buffer.
-fn read_full<R: Read>(input: &mut R, buffer: &mut [u8]) -> io::Result<bool> {
-    match input.read_exact(buffer) {
-        Ok(()) => Ok(true),
-        Err(e) if e.kind() == ErrorKind::UnexpectedEof => Ok(false),
-        Err(e) => Err(e),
-    }
-}
-
-// The word that lies at `i` before the call.
-fn before(i: usize) -> u16 {
-    (i % 30011 + 77) as u16
-}
-
-fn fill(table: &mut [u16]) {
-    let mut i: usize = 0;
-    while i < table.len() {
-        table[i] = before(i);
-        i += 1;
-    }
-}
-
-fn word_at(table: &[u16], i: usize) -> u16 {
-    if i < table.len() { table[i] } else { 0 }
-}
-
-fn wide(x: u8) -> u64
-    ensures { result < 256 }
-{
-    x as u64
-}
-
-fn byte_at(bytes: &[u8], i: usize) -> u64
-    ensures { result < 256 }
-{
-    if i < bytes.len() { wide(bytes[i]) } else { 0 }
-}
-
-// The first word from `from` on that is not as it was before the call, or the table's length.
-fn first_changed(table: &[u16], from: usize) -> usize {
-    let mut i = from;
-    while i < table.len() {
-        if table[i] != before(i) {
-            return i;
+impl From<[u32; 4]> for Header {
+    fn from([length, sent, words, form]: [u32; 4]) -> Self {
+        let length = MOST_BYTES.min(length as usize);
+        Header {
+            length,
+            sent: length.min(sent as usize),
+            words: MOST_WORDS.min(words as usize),
+            in_full: form % 256 == 1,
         }
-        i += 1;
     }
-    table.len()
 }
 
-fn say_word<W: Write>(out: &mut W, word: u16) -> io::Result<()> {
-    say_number(out, b" ", word as u64)
+// The word that lies at a place of the table before the call. `as` loses nothing, as the check proves.
+fn word_before(place: usize) -> u16 {
+    (place % 30_011 + 77) as u16
 }
 
-// The twelve words of a row.
-fn say_words<W: Write>(out: &mut W, table: &[u16], at: usize) -> io::Result<()>
-    requires { at < 12288 }
-{
-    let mut k: usize = 0;
-    while k < 12 {
-        say_word(out, word_at(table, at + k))?;
-        k += 1;
-    }
-    Ok(())
-}
-
-fn say_row<W: Write>(out: &mut W, table: &[u16], row: usize) -> io::Result<()>
-    requires { row < 1024 }
-{
-    say_number(out, b"  row ", row as u64)?;
-    say(out, b":")?;
-    say_words(out, table, row * 12)?;
-    say(out, b"\n")
-}
-
-fn say_rows<W: Write>(out: &mut W, table: &[u16], rows: usize) -> io::Result<()>
-    requires { rows ≤ 1024 }
-{
-    let mut r: usize = 0;
-    while r < rows {
-        say_row(out, table, r)?;
-        r += 1;
-    }
-    Ok(())
-}
-
-// A number that changes with any word before `end`.
-fn sum_words(table: &[u16], end: usize) -> u64 {
-    let mut sum: u64 = 7;
-    let mut i: usize = 0;
-    while i < end {
-        sum = (sum * 31 + word_at(table, i) as u64) % 4294967291;
-        i += 1;
-    }
-    sum
-}
-
-fn sum_bytes(bytes: &[u8]) -> u64 {
-    let mut sum: u64 = 7;
-    let mut i: usize = 0;
-    while i < bytes.len() {
-        sum = (sum * 31 + byte_at(bytes, i)) % 4294967291;
-        i += 1;
-    }
-    sum
-}
-
-fn one_case<W: Write>(
+// Calls with an image and a table, which holds the words of `before`, and says what is answered and left.
+// `answer` and `main` of the other program have this frame, and differ in what they read, call and say, which is all of their body.
+fn answer<W: Write>(
     out: &mut W,
     image: &[u8],
+    before: &[u16],
     table: &mut [u16],
     in_full: bool,
-) -> io::Result<()> {
-    say_number(out, b"header ", reader::header_refusal(image) as u64)?;
+) -> io::Result<()>
+    requires { length before.now ≡ length table.old }
+{
+    let header = reader::header_refusal(image)
+        .err()
+        .map_or(0, Refusal::number);
     let notes = reader::notes(image);
-    say_number(out, b" notes ", notes.len() as u64)?;
-    say_number(out, b" ", sum_bytes(notes))?;
-    fill(table);
-    let r = reader::read(image, table);
-    say_number(out, b" read ", r.number as u64)?;
-    say_number(out, b" ", r.place as u64)?;
-    say_number(out, b" ", r.rows as u64)?;
-    let rows = least(r.rows as u64, 1024);
-    let end = rows * 12;
-    let changed = first_changed(table, end);
-    if changed < table.len() {
-        say_number(out, b" changed ", changed as u64)?;
+    write!(
+        out,
+        "header {header} notes {} {}",
+        notes.len(),
+        checksum(notes)
+    )?;
+    table.copy_from_slice(before);
+    let (number, place, rows) = match reader::read(image, table) {
+        Ok(rows) => (0, 0, rows),
+        Err(refused) => (refused.refusal.number(), refused.place, refused.rows),
+    };
+    write!(out, " read {number} {place} {rows}")?;
+    let end = table.len().min(rows.saturating_mul(ROW));
+    if let Some(changed) = first_changed(before, table, end) {
+        write!(out, " changed {changed}")?;
     }
-    if in_full {
-        say(out, b"\n")?;
-        say_rows(out, table, rows)
-    } else {
-        say_number(out, b" sum ", sum_words(table, end))?;
-        say(out, b"\n")
+    let rows = &table[..end];
+    if !in_full {
+        return writeln!(out, " sum {}", checksum(rows));
     }
-}
-
-fn least(a: u64, b: usize) -> usize
-    ensures { result ≤ b }
-{
-    if a < b as u64 { a as usize } else { b }
-}
-
-fn number_at(head: &[u8], at: usize) -> u64
-    requires { at < 16 }
-{
-    byte_at(head, at)
-        + byte_at(head, at + 1) * 256
-        + byte_at(head, at + 2) * 65536
-        + byte_at(head, at + 3) * 16777216
-}
-
-fn clear(image: &mut [u8]) {
-    let mut i: usize = 0;
-    while i < image.len() {
-        image[i] = 0;
-        i += 1;
+    writeln!(out)?;
+    for (row, words) in rows.chunks_exact(ROW).enumerate() {
+        write!(out, "  row {row}:")?;
+        for word in words {
+            write!(out, " {word}")?;
+        }
+        writeln!(out)?;
     }
-}
-
-// Whether there was one more case. The image and the table are parts of the two buffers.
-fn next_case<R: Read, W: Write>(
-    input: &mut R,
-    out: &mut W,
-    image: &mut [u8],
-    table: &mut [u16],
-) -> io::Result<bool> {
-    let mut head = [0u8; 16];
-    if !read_full(input, &mut head)? {
-        return Ok(false);
-    }
-    let length = least(number_at(&head, 0), image.len());
-    let sent = least(number_at(&head, 4), length);
-    let words = least(number_at(&head, 8), table.len());
-    let in_full = byte_at(&head, 12) == 1;
-    clear(image);
-    if !read_full(input, &mut image[0..sent])? {
-        return Ok(false);
-    }
-    one_case(out, &image[0..length], &mut table[0..words], in_full)?;
-    Ok(true)
-}
-
-// The `ensures` give the lengths alone, which lending the arrays needs.
-fn image_buffer() -> [u8; 65600]
-    ensures { 65600 ≡ length result }
-{
-    [0; 65600]
-}
-
-fn table_buffer() -> [u16; 13000]
-    ensures { 13000 ≡ length result }
-{
-    [0; 13000]
+    Ok(())
 }
 
 fn main(rt: HostRuntime) -> io::Result<()> {
     let mut input = rt.stdin();
     let mut out = rt.stdout();
-    let mut image = image_buffer();
-    let mut table = table_buffer();
-    let mut turns = u64::MAX;
-    while turns > 0 && next_case(&mut input, &mut out, &mut image, &mut table)? {
-        turns -= 1;
+    // Arrays and not vectors: a case never fails for want of memory, and the program assumes nothing of how memory is got.
+    let mut image = [0; MOST_BYTES];
+    let before: [u16; MOST_WORDS] = array::from_fn(word_before);
+    let mut table = before;
+    // Until the input ends. A range and no endless loop, so that the program has an end for every input.
+    for _ in 0..u64::MAX {
+        let Some(numbers) = read_numbers(&mut input)? else {
+            break;
+        };
+        let header = Header::from(numbers);
+        image.fill(0);
+        if !read_whole(&mut input, &mut image[..header.sent])? {
+            break;
+        }
+        answer(
+            &mut out,
+            &image[..header.length],
+            &before[..header.words],
+            &mut table[..header.words],
+            header.in_full,
+        )?;
     }
     Ok(())
 }

@@ -1,5 +1,3 @@
-pub mod Keys
-pub mod Events
 pub mod Tables
 pub mod Noting
 pub mod Owners

@@ -1,157 +1,117 @@
 -- All events, one after the other.
---     Runs             p events have been read: the state lies in the working memory, and the events left decide
---     held_at                  what stands at a place of the holds
+--     events_are       the events that bytes write, six by six
+--     Runs             p events have been read, and `left` are the others: the working memory has the state that is reached, and the events left decide
 --     runs_start, runs_on      before the first event, and after each that passes
---     runs_ready       what the step relies on
+--     runs_can_count   what a step relies on
 --     runs_stop, runs_end      the answer at a refusal, and at the end
---     image_told       reading an image that is accepted is running through its events
-use Prim.Native.Nat.{ℕ, suc, ◌+◌, ◌*◌, ◌-◌, ◌%◌, ◌≤◌, ◌<◌}
-use native.Mathlib.Omega.{arith}
-use native.Mathlib.Decide.{ℕ_discrete}
-use native.Mathlib.Numerals.{add-one}
-use mathlib.Core.Path.{◌≡◌, refl, sym, ap, ◌∙◌}
-use mathlib.Core.List.{List, ◌∷◌}
-use lib.ListN.{length, get_or, take, drop, set, replicate, length-set, length-drop, get_or-replicate}
-use lib.Seq.{take_all, get_or-set_same, get_or-set_other}
+use Rattle.std.proofs.Common.{ℕ, zero, suc, ◌+◌, ◌*◌, ◌/◌, ◌≤◌, ◌<◌, ◌≡◌, refl, sym, ap, ◌∙◌, List, [], ◌∷◌, map, length, get_or, take, drop, length-drop, length-take-le, drop-cons, arith, add-one, Ok, Err, Result, drop_of_length-le, take-append-drop}
+use Rattle.std.specs.Simd.{first_chunks}
+use Rattle.laws.specs.Memory.{field, little}
+use Rattle.laws.proofs.Memory.{part_first}
 use Rattle.model.specs.declared.Event.{Event}
 use Rattle.model.specs.declared.Limits.{Limits}
-use Rattle.model.specs.Refusals.{passes, refuses, number}
-use Rattle.model.specs.Holds.{nothing}
-use Rattle.model.specs.Image.{event_size, events, offset, limits_of, event_of, events_from, events_of}
-use Rattle.model.specs.Reading.{Outcome, outcome, told}
-use Rattle.model.specs.Rows.{most_rows}
-use Rattle.model.specs.Table.{row_size, table_room}
-use Rattle.model.specs.Trace.{State, start, refusal, after, Read, reads, trace}
-use Rattle.model.proofs.Image.{Accepted}
-use Rattle.model.proofs.Passing.{passed, held_after}
-use Rattle.model.proofs.Refusals.{number_passes}
-use Rattle.model.proofs.Sound.{sound_start, sound_after}
-use Rattle.model.proofs.Traces.{Way, on, stop, way, reads_end, reads_on, reads_stop}
-use Rattle.holds.specs.declared.Hold.{Hold}
-use Rattle.holds.specs.Hold.{laid}
-use Rattle.index.specs.Index.{buckets, Linked}
-use Rattle.index.proofs.Index.{linked_start}
-use Rattle.reader.specs.Working.{Ready, Tabled, Lies, stepped, Did}
-use Rattle.reader.proofs.Events.{events_more, events_none}
-use Rattle.reader.proofs.Owners.{owned_start}
+use Rattle.model.specs.declared.Refusal.{Refusal}
+use Rattle.model.specs.Refusals.{passes, refuses, number, number_of}
+use Rattle.model.specs.Image.{event_size, event_of, events_from}
+use Rattle.model.specs.Reading.{outcome, answer_of, told}
+use Rattle.model.specs.Table.{row_size}
+use Rattle.model.specs.Trace.{State, start, after, Read, reads, trace}
+use Rattle.model.proofs.Sound.{Sound, sound_start, sound_after}
+use Rattle.model.proofs.Traces.{reads_end, reads_on, reads_stop}
+use Rattle.reader.specs.declared.table.Rows.{Rows}
+use Rattle.reader.specs.declared.trace.Threads.{Threads}
+use Rattle.reader.specs.Working.{CanCount, Tabled, Stands, stepped, Did, DidStep}
 use Rattle.reader.proofs.Tables.{split, split_in, times_there}
 
-pub record Runs (n : Limits) (bs t₀ ws : List ℕ) (holds : List Hold) (owner head next : List ℕ) (rows p at : ℕ) : Type 0 where
+-- ---- six bytes are an event
+
+module _ (b : List ℕ) (h : 6 ≤ length b) where
+  six : length (take 6 b) ≡ 6
+  six = length-take-le 6 b h
+
+  same_field : (at n : ℕ) → at + n ≤ 6 → field at n (take 6 b) ≡ field at n b
+  same_field at n l =
+      sym (ap little (part_first (take 6 b) (drop 6 b) at n (omega (arith, six))))
+      ∙ ap (field at n) (take-append-drop 6 b)
+
+  event_first : event_of (take 6 b) ≡ event_of b
+  event_first =
+      λ i. record {
+        kind = same_field 0 1 (omega arith) i;
+        thread = same_field 1 1 (omega arith) i;
+        lock = same_field 2 2 (omega arith) i;
+        site = same_field 4 2 (omega arith) i;
+      }
+
+events_by_six : (n : ℕ) (b : List ℕ) → length b ≡ event_size * n → events_from n b ≡ map event_of (first_chunks 6 n b)
+unfolding events_from
+events_by_six zero b h = refl
+events_by_six (suc n) b h =
+    rw (event_first b (omega arith), events_by_six n (drop 6 b) (length-drop 6 b ∙ omega arith))
+
+pub events_are : (b : List ℕ) (all : List (List ℕ)) → all ≡ first_chunks 6 (length b / 6) b → (n : ℕ) → length b ≡ event_size * n → events_from n b ≡ map event_of all
+events_are b all q n h =
+    let e : length b / 6 ≡ n = omega arith in
+    events_by_six n b h ∙ ap (map event_of) (sym (q ∙ ap (λ (k : ℕ). first_chunks 6 k b) e))
+
+-- ---- one after the other
+
+pub record Runs (n : Limits) (all : List (List ℕ)) (t₀ : List ℕ) (p : ℕ) (x : Threads) (m : Rows) : Type 0 where
+  pub limits : x.limits ≡ n
   pub state : State
-  pub lies : Lies n state p t₀ rows ws owner
-  pub linked : Linked ws rows head next
-  pub each : (d : Hold) (u : ℕ) → u < 32 → get_or holds u d ≡ laid (state.held u)
-  pub many : length holds ≡ 32
-  pub heads : length head ≡ buckets
-  pub nexts : length next ≡ most_rows
-  pub place : at ≡ event_size * p
-  pub within : at ≤ length bs
-  pub left : (count : ℕ) → length bs ≡ event_size * count → trace n (events_from count bs) ≡ reads n state p (events_from (count - p) (drop at bs))
+  pub sound : Sound n p state
+  pub stands : Stands state t₀ x m
+  pub left : trace n (map event_of all) ≡ reads n state p (map event_of (drop p all))
 
--- what stands at a place of the holds is the hold of the thread with that number
-pub held_at : (n : Limits) (bs t₀ ws : List ℕ) (holds : List Hold) (owner head next : List ℕ) (rows p at : ℕ) (R : Runs n bs t₀ ws holds owner head next rows p at)
-    (d : Hold) (u t : ℕ) → u ≡ t → t < 32 → get_or holds u d ≡ laid (R.state.held t)
-held_at n bs t₀ ws holds owner head next rows p at R d u t e l = rw e (R.each d t l)
-
-pub runs_start : (n : Limits) (bs t₀ : List ℕ) (none : Hold) → none ≡ laid nothing → Runs n bs t₀ t₀ (replicate 32 none) (replicate 256 0) (replicate buckets 0) (replicate most_rows 0) 0 0 0
-runs_start n bs t₀ none e =
-    record {
-      state = start;
-      lies = record { sound = sound_start n; table = record { count = refl; same = refl; words = refl }; owned = owned_start };
-      linked = linked_start t₀;
-      each = λ d u l. get_or-replicate 32 u none d l ∙ e;
-      many = refl;
-      heads = refl;
-      nexts = refl;
-      place = refl;
-      within = omega arith;
-      left = λ count h. let z : count - 0 ≡ count = omega arith in rw z;
-    }
+pub runs_start : {n : Limits} (all : List (List ℕ)) {t₀ : List ℕ} {x : Threads} {m : Rows} → x.limits ≡ n → Stands start t₀ x m → Runs n all t₀ 0 x m
+runs_start {n} all l L = record { limits = l; state = start; sound = sound_start n; stands = L; left = refl }
 
 -- the answer, and what the table holds
-told_is : (r : Read) (t₀ ws : List ℕ) (a place rows : ℕ) → a ≡ number r.verdict → place ≡ r.place → Tabled r.state.rows t₀ rows ws → outcome (record { number = a; place = place; rows = rows }) ws ≡ told r t₀
-told_is r t₀ ws a place rows p q t = λ i. record { answer = record { number = p i; place = q i; rows = sym t.count i }; table = t.words i }
+told_is : (r : Read) (t₀ : List ℕ) (m : Rows) (a place rows : ℕ) (ws : List ℕ) → a ≡ number r.verdict → place ≡ r.place → rows ≡ m.count → ws ≡ m.table.now → Tabled r.state.rows t₀ m
+    → outcome (record { number = a; place = place; rows = rows }) ws ≡ told r t₀
+told_is r t₀ m a place rows ws p q c w t = λ i. record { answer = record { number = p i; place = q i; rows = (c ∙ sym t.count) i }; table = (w ∙ t.words) i }
 
-module _ (n : Limits) (bs t₀ ws : List ℕ) (holds : List Hold) (owner head next : List ℕ) (rows p at : ℕ) (R : Runs n bs t₀ ws holds owner head next rows p at) where
-  pub runs_ready : p < 65535 → table_room ≤ length t₀ → Ready rows ws head next
-  runs_ready l room =
-      record {
-        few = omega (arith, R.lies.sound.rows.few, R.lies.table.count);
-        room = omega (arith, R.lies.table.same);
-        times = times;
-        heads = R.heads;
-        nexts = R.nexts;
-        linked = R.linked;
-      }
-    where
-      times : (r : ℕ) → r < rows → get_or ws (r * row_size + 11) 0 < 65535
-      times r h =
-          let S = R.lies.sound.rows in
-          let w = split R.state.rows r (omega (arith, R.lies.table.count)) in
-          omega (
-            arith,
-            ap (λ (v : List ℕ). get_or v (r * row_size + 11) 0) R.lies.table.words,
-            times_there R.state.rows (λ q i. (S.each q i).fair.few) t₀ r w,
-            (S.each w.row (split_in R.state.rows r w)).often,
-          )
+module _ {n : Limits} {all : List (List ℕ)} {t₀ : List ℕ} {p : ℕ} {x : Threads} {m : Rows} (R : Runs n all t₀ p x m) where
+  pub runs_can_count : p < 65535 → CanCount m
+  runs_can_count l r h =
+      let S = R.sound.rows in
+      let w = split R.state.rows r (omega (arith, R.stands.rows.count)) in
+      omega (
+        arith,
+        ap (λ (v : List ℕ). get_or v (r * row_size + 11) 0) R.stands.rows.words,
+        times_there R.state.rows (λ q i. (S.each q i).fair.few) t₀ r w,
+        (S.each w.row (split_in R.state.rows r w)).often,
+      )
 
   -- the events end
-  pub runs_end : length bs < at + event_size → (count : ℕ) → length bs ≡ event_size * count → outcome (record { number = 0; place = 0; rows = rows }) ws ≡ told (trace n (events_from count bs)) t₀
-  runs_end h count c =
-      let z : count - p ≡ 0 = omega (arith, R.place) in
-      rw (R.left count c, z, events_none (drop at bs), reads_end n R.state p) (told_is (record { verdict = passes; place = 0; state = R.state }) t₀ ws 0 0 rows refl refl R.lies.table)
+  pub runs_end : length all ≤ p → (rows : ℕ) (ws : List ℕ) → rows ≡ m.count → ws ≡ m.table.now → outcome (answer_of (Ok rows)) ws ≡ told (trace n (map event_of all)) t₀
+  runs_end h rows ws c w =
+      rw (R.left, drop_of_length-le all h, reads_end n R.state p) (told_is (record { verdict = passes; place = 0; state = R.state }) t₀ m 0 0 rows ws refl refl c w R.stands.rows)
 
   -- the next event, and what a step makes of it
-  module _ (h : at + event_size ≤ length bs) (T : n.threads ≤ 32) (e : Event) (q : e ≡ event_of (drop at bs)) (answer : ℕ) (left : Hold) (rows' : ℕ) (ws' owner' : List ℕ)
-      (D : Did n R.state p e t₀ answer left rows' ws' owner') (head' next' : List ℕ) where
-    -- the events left: this one, and the others
-    next_one : (count : ℕ) → length bs ≡ event_size * count → trace n (events_from count bs) ≡ reads n R.state p (e ∷ events_from (count - (p + 1)) (drop (at + event_size) bs))
-    next_one count c =
-        let z : count - p - 1 ≡ count - (p + 1) = omega arith in
-        R.left count c ∙ ap (reads n R.state p) (events_more bs at (count - p) (omega (arith, R.place)) ∙ rw (z, q))
+  module _ (h : p < length all) (e : Event) (q : e ≡ event_of (get_or all p [])) where
+    next_one : trace n (map event_of all) ≡ reads n R.state p (e ∷ map event_of (drop (suc p) all))
+    next_one = R.left ∙ ap (λ (es : List (List ℕ)). reads n R.state p (map event_of es)) (drop-cons all p [] h) ∙ rw (sym q)
 
-    pub runs_stop : (answer ≡ 0 → ⊥) → (count : ℕ) → length bs ≡ event_size * count → outcome (record { number = answer; place = p; rows = rows' }) ws' ≡ told (trace n (events_from count bs)) t₀
-    runs_stop z count c = go (way (refusal n R.state e))
-      where
-        go : Way (refusal n R.state e) → outcome (record { number = answer; place = p; rows = rows' }) ws' ≡ told (trace n (events_from count bs)) t₀
-        go (on v) = absurd (z (D.number ∙ ap number v))
-        go (stop r v) =
-            rw (next_one count c, reads_stop n R.state p e (events_from (count - (p + 1)) (drop (at + event_size) bs)) r v)
-            (told_is (record { verdict = refuses r; place = p; state = R.state }) t₀ ws' answer p rows' (D.number ∙ ap number v) refl (rw (v, stepped) at D.table))
+    did : {a : Result (Unit {0}) Refusal} {y : Threads} {v : Rows} → Did x m p e a y v → DidStep n R.state p e t₀ a y v
+    did D = rw R.limits at (D R.state t₀ (rw R.limits R.sound) R.stands)
 
-    pub runs_on : answer ≡ 0 → Linked ws' rows' head' next' → length head' ≡ buckets → length next' ≡ most_rows → Runs n bs t₀ ws' (set holds (e.thread % 32) left) owner' head' next' rows' (p + 1) (at + event_size)
-    runs_on z k hs ns =
-        let v : refusal n R.state e ≡ passes = number_passes (refusal n R.state e) (sym D.number ∙ z) in
-        let t : e.thread < n.threads = (passed n R.state e v).thread in
-        let m : e.thread % 32 ≡ e.thread = omega arith in
-        record {
+    pub runs_stop : {r : Refusal} {y : Threads} {v : Rows} → Did x m p e (Err r) y v → (rows : ℕ) (ws : List ℕ) → rows ≡ v.count → ws ≡ v.table.now
+        → outcome (answer_of (Err (record { refusal = r; place = p; rows = rows }))) ws ≡ told (trace n (map event_of all)) t₀
+    runs_stop {r} {y} {v} D rows ws c w' =
+        let w = did D in
+        rw (next_one, reads_stop n R.state p e (map event_of (drop (suc p) all)) r (sym w.verdict))
+        (told_is (record { verdict = refuses r; place = p; state = R.state }) t₀ v (number_of r) p rows ws refl refl c w' (rw (sym w.verdict, stepped) at w.stands.rows))
+
+    pub runs_on : {u : Unit {0}} {y : Threads} {v : Rows} → y.limits ≡ x.limits → Did x m p e (Ok u) y v → Runs n all t₀ (p + 1) y v
+    runs_on l D =
+        let w = did D in
+        let g = sym w.verdict in
+        rw (add-one p)
+        (record {
+          limits = l ∙ R.limits;
           state = after R.state p e;
-          lies = record { sound = rw (add-one p) (sound_after n p R.state e R.lies.sound v); table = rw (v, stepped) at D.table; owned = rw (v, stepped) at D.owned };
-          linked = k;
-          each = λ d u l. rw m (each v t d u l (ℕ_discrete u e.thread));
-          many = length-set holds (e.thread % 32) left ∙ R.many;
-          heads = hs;
-          nexts = ns;
-          place = omega (arith, R.place);
-          within = h;
-          left = λ count c. next_one count c ∙ rw (add-one p) (reads_on n R.state p e (events_from (count - suc p) (drop (at + event_size) bs)) v);
-        }
-      where
-        each : refusal n R.state e ≡ passes → e.thread < n.threads → (d : Hold) (u : ℕ) → u < 32 → Dec (u ≡ e.thread) → get_or (set holds e.thread left) u d ≡ laid ((after R.state p e).held u)
-        each v t d u l (yes f) = rw (f, get_or-set_same holds e.thread left d (omega (arith, R.many))) (D.hold v)
-        each v t d u l (no f) = get_or-set_other holds e.thread u left d f ∙ R.each d u l ∙ ap laid (sym (held_after R.state p e u f))
-
--- ---- the events of an image
-
-module _ (b : List ℕ) (A : Accepted b) (o : ℕ) (q : o ≡ offset b) where
-  -- from O on to the end
-  rest : take (length b - o) (drop o b) ≡ drop (offset b) b
-  rest = take_all (length b - o) (drop o b) (simp length-drop (omega arith)) ∙ ap (λ (n : ℕ). drop n b) q
-
-  pub rest_length : length (take (length b - o) (drop o b)) ≡ event_size * events b
-  rest_length = ap length rest ∙ length-drop (offset b) b ∙ omega (arith, A.ends)
-
-  module _ (n : Limits) (l : n ≡ limits_of b) (t : List ℕ) (out : Outcome) where
-    pub image_told : ((count : ℕ) → length (take (length b - o) (drop o b)) ≡ event_size * count → out ≡ told (trace n (events_from count (take (length b - o) (drop o b)))) t)
-        → out ≡ told (trace (limits_of b) (events_of b)) t
-    image_told f = f (events b) rest_length ∙ rw (rest, l)
+          sound = sound_after n p R.state e R.sound g;
+          stands = rw (g, stepped) at w.stands;
+          left = next_one ∙ reads_on n R.state p e (map event_of (drop (suc p) all)) g;
+        })

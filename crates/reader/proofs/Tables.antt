@@ -4,22 +4,20 @@
 --     key_there, times_there   the key of a row, and its occurrences, by its place
 --     key_counted, key_put     counting and a new row leave the keys of the other rows
 --     tabled_counted           one occurrence more
+--     put_words                how a row is put
 --     tabled_new               one row more
 --     known_there, known_nowhere    whether a dependency has a row, by the keys
-use Prim.Native.Nat.{ℕ, suc, ◌+◌, ◌*◌, ◌-◌, ◌≤◌, ◌<◌}
-use native.Mathlib.Omega.{arith}
-use native.Mathlib.Decide.{dec_le}
-use mathlib.Core.Path.{◌≡◌, refl, sym, ap, ap₂, subst, ◌∙◌}
-use mathlib.Core.Bool.{false}
-use mathlib.Core.Logic.{inl, inr}
-use mathlib.Core.List.{List, [], ◌∷◌, ◌++◌, append_assoc, append-nil, map}
-use lib.ListN.{length, get_or, take, drop, set, length-append, length-map, take-append-drop}
-use lib.Seq.{length-take-le, split_at, set_at, get_or_at, take_at, drop-set-lt, drop-set-add, take-set-le, sets, sets-eq}
+use Rattle.std.proofs.Common.{ℕ, suc, ◌+◌, ◌*◌, ◌-◌, ◌≤◌, ◌<◌, ◌≡◌, refl, sym, ap, ap₂, subst, ◌∙◌, false, inl, inr, List, [], ◌∷◌, ◌++◌, append_assoc, map, length, get_or, take, drop, set, length-append, length-take-le, arith, append-nil, take-append-drop, take_at, drop-drop, drop-set-lt}
+use Rattle.std.proofs.Math.Decide.{dec_le}
+use Rattle.std.proofs.Math.Seq.{split_at}
+use Rattle.std.proofs.lemmas.List.{length-map, set_at, get_or_at, drop-set-add, take-set-le}
+use Rattle.std.proofs.lemmas.List.Edits.{sets, sets-eq}
+use borrow.Rule.Slice.PartMut.{put_mid}
 use Rattle.laws.specs.Lists.{In, Pairwise}
 use Rattle.laws.specs.Memory.{part, over}
 use Rattle.laws.proofs.Tests.{fails}
 use Rattle.laws.proofs.Lists.{in_left, in_right, map_in, map_append, flat_append, append_pairwise}
-use Rattle.laws.proofs.Memory.{part_first, part_after, over_more}
+use Rattle.laws.proofs.Memory.{uncons, part_first, part_after, over_more}
 use Rattle.model.specs.Rows.{Dependency, Row, known, new_row, again, counted, deps}
 use Rattle.model.specs.Table.{row_size, key_words, row_words, table_words, key_size, key_at}
 use Rattle.model.proofs.Rows.{tells_same_dep, tells_known, what_counted, counted_none}
@@ -159,6 +157,30 @@ key_counted ws r v q = go (dec_le (q * row_size) (r * row_size + 11))
         ∙ ap (take key_size) (drop-set-add (q * row_size) ws (r * row_size + 11 - q * row_size) v)
         ∙ take-set-le key_size (drop (q * row_size) ws) (r * row_size + 11 - q * row_size) v m
     go (no l) = ap (take key_size) (drop-set-lt (q * row_size) ws (r * row_size + 11) v (omega arith))
+
+-- as a row is put: its key is copied, then the two words behind it are set
+pub put_words : (t key : List ℕ) (at p k : ℕ) (copied : List ℕ) → copied ≡ key → k ≡ key_size → length key ≡ key_size → at + row_size ≤ length t
+    → set (set (put_mid at k t copied) (at + 10) p) (at + 11) 1 ≡ sets t at (key ++ p ∷ 1 ∷ [])
+put_words t key at p k copied e f l room =
+    let a = get_or t (at + 10) 0 in
+    let b = get_or t (at + 11) 0 in
+    let front = take at t ++ key in
+    let back = drop (at + 12) t in
+    let i : at + 10 + 1 ≡ at + 11 = omega arith in
+    let j : at + 11 + 1 ≡ at + 12 = omega arith in
+    let long : length front ≡ at + 10 = length-append (take at t) key ∙ omega (arith, length-take-le at t (omega arith)) in
+    let rest : drop k (drop at t) ≡ a ∷ b ∷ back =
+    ap (λ (n : ℕ). drop n (drop at t)) f ∙ drop-drop 10 at t ∙ uncons 0 t (at + 10) (omega arith)
+    ∙ ap (λ (v : List ℕ). a ∷ v) (ap (λ (n : ℕ). drop n t) i ∙ uncons 0 t (at + 11) (omega arith) ∙ ap (λ (n : ℕ). b ∷ drop n t) j) in
+    let whole : length (key ++ p ∷ 1 ∷ []) ≡ 12 = length-append key (p ∷ 1 ∷ []) ∙ omega arith in
+    let start : put_mid at k t copied ≡ front ++ (a ∷ b ∷ back) = rw (e, rest) (sym (append_assoc (take at t) key (a ∷ b ∷ back))) in
+    let end : sets t at (key ++ p ∷ 1 ∷ []) ≡ front ++ (p ∷ 1 ∷ back) =
+    sets-eq (key ++ p ∷ 1 ∷ []) t at (omega (arith, whole)) ∙ ap (λ (n : ℕ). take at t ++ (key ++ p ∷ 1 ∷ []) ++ drop (at + n) t) whole ∙ simp append_assoc in
+    ap (λ (v : List ℕ). set (set v (at + 10) p) (at + 11) 1) start
+    ∙ ap (λ (v : List ℕ). set v (at + 11) 1) (set_at front a (b ∷ back) p (at + 10) long ∙ sym (append_assoc front (p ∷ []) (b ∷ back)))
+    ∙ set_at (front ++ p ∷ []) b back 1 (at + 11) (length-append front (p ∷ []) ∙ omega (arith, long))
+    ∙ append_assoc front (p ∷ []) (1 ∷ back)
+    ∙ sym end
 
 -- as a row is put behind n others
 module _ (ws key : List ℕ) (n p : ℕ) (k : length key ≡ key_size) (room : n * row_size + row_size ≤ length ws) where

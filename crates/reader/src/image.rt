@@ -1,119 +1,124 @@
-// The header of an image, and its events as they lie.
-ghost use Rattle.std.specs.Prelude.{◌≡◌, ◌+◌, ◌≤◌, ◌<◌, length, drop};
-ghost use Rattle.laws.specs.Lists.{same};
-ghost use Rattle.laws.specs.Memory.{part, field};
-ghost use Rattle.model.specs.Image.{header_size, event_size, mark, counts_fit, places_fit, event_of};
-ghost use Rattle.model.specs.Reading.{header_number};
+//! The header of an image, and its events as they lie.
+ghost use Rattle.std.specs.Prelude.{◌≡◌, ◌+◌, ◌≤◌, ℕ, List, length};
+ghost use Rattle.laws.specs.Memory.{part};
+ghost use Rattle.model.specs.Image.{header_size, counts_fit, places_fit, event_of};
+ghost use Rattle.reader.specs.Header.{header_of, IsHeaderOf};
 
-use model::Event;
+use model::{Event, Limits, MOST_LOCKS, MOST_THREADS, Refusal};
 
-// What an image begins with.
-pub(crate) const MARK: [u8; 4] = *b"LKT1";
+/// What an image begins with.
+const MARK: [u8; 4] = *b"LKT1";
 
-// The two-byte number at `at`, low byte first.
-pub(crate) fn word(s: &[u8], at: usize) -> u16
-    requires { at + 2 ≤ length s.now }
-    ensures { result ≡ field at 2 s.now }
-{
-    s[at] as u16 + s[at + 1] as u16 * 256
+/// How many bytes a header has.
+pub(crate) const HEADER_SIZE: usize = 20;
+
+/// How many bytes an event has.
+pub(crate) const EVENT_SIZE: usize = 6;
+
+/// An image has at most so many bytes.
+const LONGEST: usize = 65536;
+
+/// A trace has at most so many events.
+const MOST_EVENTS: u32 = 4096;
+
+/// What a header says: the limits of threads and locks, how many events there are, where they begin, and how long the image is.
+#[derive(Clone, Copy, Debug, PartialEq, Eq)]
+pub(crate) struct Header {
+    pub limits: Limits,
+    events: u32,
+    offset: u32,
+    whole: u32,
 }
 
-fn wide(x: u16) -> usize
-    ensures { (result ≡ x) × (result < 65536) }
-{
-    x as usize
-}
-
-// The four-byte number at `at`, low byte first.
-pub(crate) fn long(s: &[u8], at: usize) -> usize
-    requires { at + 4 ≤ length s.now }
-    ensures { (result ≡ field at 4 s.now) × (result < 4294967296) }
-{
-    wide(word(s, at)) + wide(word(s, at + 2)) * 65536
-}
-
-fn marked(image: &[u8]) -> bool
-    requires { header_size ≤ length image.now }
-    ensures { result ≡ same (part 0 4 image.now) mark }
-{
-    let mut i: usize = 0;
-    while i < 4 {
-        if image[i] != MARK[i] {
-            return false;
+// What the image says is cast to `usize` by `as`, which the check proves to lose nothing: Rust has no `From<u32>` for it, and `try_from` would add an error that cannot come.
+impl Header {
+    /// The header of an image, or the refusal of the first of checks 1 to 5 that refuses it.
+    #[tactic(auto, unfolding(model::specs::Image::header))]
+    pub(crate) fn parse(image: &[u8]) -> Result<Header, Refusal>
+        ensures { IsHeaderOf image.now result }
+    {
+        if image.len() < HEADER_SIZE {
+            return Err(Refusal::Short);
         }
-        i += 1;
+        if image.len() > LONGEST {
+            return Err(Refusal::Long);
+        }
+        if !image.starts_with(&MARK) {
+            return Err(Refusal::Mark);
+        }
+        let header = Header::read(image);
+        if !header.counts_fit() {
+            return Err(Refusal::Counts);
+        }
+        if !header.places_fit(image.len()) {
+            return Err(Refusal::Places);
+        }
+        Ok(header)
     }
-    true
+
+    // What the first twenty bytes say, whether it fits or not.
+    fn read(image: &[u8]) -> Header
+        requires { header_size ≤ length image.now }
+        ensures { result ≡ header_of image.now }
+    {
+        Header {
+            limits: Limits {
+                threads: u16::from_le_bytes(bytes_at(image, 4)),
+                locks: u16::from_le_bytes(bytes_at(image, 6)),
+            },
+            events: u32::from_le_bytes(bytes_at(image, 8)),
+            offset: u32::from_le_bytes(bytes_at(image, 12)),
+            whole: u32::from_le_bytes(bytes_at(image, 16)),
+        }
+    }
+
+    #[tactic(auto, unfolding(model::specs::Image::counts_fit))]
+    fn counts_fit(&self) -> bool
+        ensures { (b : List ℕ) → self.now ≡ header_of b → result ≡ counts_fit b }
+    {
+        (1..=MOST_THREADS).contains(&usize::from(self.limits.threads))
+            && (1..=MOST_LOCKS).contains(&usize::from(self.limits.locks))
+            && self.events <= MOST_EVENTS
+    }
+
+    // The events begin behind the header and end with the image, which is `len` bytes long.
+    #[tactic(auto, unfolding(model::specs::Image::places_fit))]
+    fn places_fit(&self, len: usize) -> bool
+        ensures { (b : List ℕ) → self.now ≡ header_of b → len ≡ length b → result ≡ places_fit b }
+    {
+        let whole = self.whole as usize;
+        HEADER_SIZE <= self.offset()
+            && whole == len
+            && self.offset() + EVENT_SIZE * self.events as usize == whole
+    }
+
+    /// Where the notes end and the events begin.
+    pub(crate) fn offset(&self) -> usize
+        ensures { result ≡ self.now.offset }
+    {
+        self.offset as usize
+    }
 }
 
-fn counts_fit(image: &[u8]) -> bool
-    requires { header_size ≤ length image.now }
-    ensures { result ≡ counts_fit image.now }
+// The `N` bytes from `at` on: the one place where a slice and a place in it become an array.
+fn bytes_at<const N: usize>(image: &[u8], at: usize) -> [u8; N]
+    requires { at + N ≤ length image.now }
+    ensures { result ≡ part at N image.now }
 {
-    let threads = word(image, 4);
-    if threads < 1 {
-        return false;
-    }
-    if 32 < threads {
-        return false;
-    }
-    let locks = word(image, 6);
-    if locks < 1 {
-        return false;
-    }
-    if 256 < locks {
-        return false;
-    }
-    long(image, 8) <= 4096
+    let mut bytes = [0; N];
+    bytes.copy_from_slice(&image[at..at + N]);
+    bytes
 }
 
-fn places_fit(image: &[u8]) -> bool
-    requires { header_size ≤ length image.now }
-    ensures { result ≡ places_fit image.now }
+/// The event that six bytes write.
+pub(crate) fn event_of(bytes: &[u8; EVENT_SIZE]) -> Event
+    ensures { result ≡ event_of bytes.now }
 {
-    let events = long(image, 8);
-    let offset = long(image, 12);
-    let whole = long(image, 16);
-    if offset < 20 {
-        return false;
-    }
-    if whole != image.len() {
-        return false;
-    }
-    offset + 6 * events == whole
-}
-
-// The number of the first of checks 1 to 5 that refuses the image, or 0.
-pub(crate) fn first_refusal(image: &[u8]) -> u16
-    ensures { result ≡ header_number image.now }
-{
-    if image.len() < 20 {
-        return 1;
-    }
-    if 65536 < image.len() {
-        return 2;
-    }
-    if !marked(image) {
-        return 3;
-    }
-    if !counts_fit(image) {
-        return 4;
-    }
-    if !places_fit(image) {
-        return 5;
-    }
-    0
-}
-
-// The event that lies at `at`.
-pub(crate) fn event_at(s: &[u8], at: usize) -> Event
-    requires { at + event_size ≤ length s.now }
-    ensures { result ≡ event_of (drop at s.now) }
-{
+    let [kind, thread, lock_low, lock_high, site_low, site_high] = *bytes;
     Event {
-        kind: s[at],
-        thread: s[at + 1],
-        lock: word(s, at + 2),
-        site: word(s, at + 4),
+        kind,
+        thread,
+        lock: u16::from_le_bytes([lock_low, lock_high]),
+        site: u16::from_le_bytes([site_low, site_high]),
     }
 }

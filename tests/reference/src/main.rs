@@ -1,4 +1,4 @@
-//! A second implementation of document 01, written from the document alone, and the cases that both are run on.
+//! A second implementation of docs/RULES.md, written from the rules alone, and the cases that both are run on.
 //!
 //!     reference read input FILE       the cases of FILE as the program `read_cases` takes them
 //!     reference read stored FILE      the answers written in FILE, as `read_cases` prints them

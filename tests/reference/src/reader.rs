@@ -13,7 +13,7 @@ pub struct Row {
 }
 
 impl Row {
-    /// The row as document 01 lays it out.
+    /// The row as docs/RULES.md lays it out.
     pub fn words(&self) -> Vec<u16> {
         let mut words = vec![self.thread, self.wanted, self.held.len() as u16];
         words.extend(&self.held);

@@ -1,51 +1,54 @@
 -- Each way in which a table is not well formed is one law of `Tables`.
-use Rattle.std.proofs.Common.{ℕ, ◌+◌, ◌-◌, ◌∙◌, sym, refl, subst, List, get_or, set, arith, length-set}
+use Rattle.std.proofs.Common.{◌+◌, ◌∙◌, sym, ap, refl, arith, rules, subst, take, length-set}
 use Rattle.std.proofs.lemmas.Bool.{false≢true}
-use Rattle.std.proofs.lemmas.List.{length-replicate}
-use Rattle.index.specs.Index.{bucket_of, Linked}
-use Rattle.index.proofs.Index.{linked_start, linked_new}
-use Rattle.model.specs.Table.{key_at}
-use Rattle.given.proofs.Tables.{checked_none, checked_next, not_few, not_room, not_row, not_apart, checked_given, key_now}
+use Rattle.index.proofs.Linked.{linked_new}
+use Rattle.index.proofs.Seeking.{found_some, found_none}
+use Rattle.given.specs.Working.{RowParts}
+use Rattle.given.proofs.Tables.{checked_none, checked_next, not_few, not_room, not_row, not_apart, checked_given, key_now, well_row}
+use Rattle.given.proofs.well_formed.Goals.{then-rows-gt-MOST_ROWS-via-then-rows-gt-MOST_ROWS, then-rows-gt-MOST_ROWS-via-else-rows-gt-MOST_ROWS+then-table-rows, then-not-row_ok-via-then-not-row_ok, then-not-row_ok-via-else-not-row_ok+then-is_some}
 use Rattle.given.proofs.well_formed.Goals as goal
 
 pub returns-then-rows-gt-MOST_ROWS : goal.returns-then-rows-gt-MOST_ROWS
-returns-then-rows-gt-MOST_ROWS c = not_few c.args.table.now c.args.rows (omega arith)
-
-pub returns-then-table-rows : goal.returns-then-table-rows
-returns-then-table-rows c = not_room c.args.table.now c.args.rows (omega arith)
+returns-then-rows-gt-MOST_ROWS c =
+    elim c.then-rows-gt-MOST_ROWS.branch [
+      | then-rows-gt-MOST_ROWS-via-then-rows-gt-MOST_ROWS w ↦ not_few c.args.table.now c.args.rows (omega arith)
+      | then-rows-gt-MOST_ROWS-via-else-rows-gt-MOST_ROWS+then-table-rows w ↦ not_room c.args.table.now c.args.rows (omega arith)
+    ]
 
 pub loop-i-init : goal.loop-i-init
 loop-i-init c =
     record {
-      within = omega arith;
       checked = checked_none c.args.table.now;
-      linked = linked_start c.args.table.now;
-      buckets = length-replicate {A = ℕ} 512 0;
-      links = length-replicate {A = ℕ} 1024 0;
+      indexed = c.new-index.ensures.indexes c.args.table.now;
+      heads = search rules;
+      nexts = search rules;
     }
 
-pub returns-then-not-row_ok : goal.returns-then-not-row_ok
-returns-then-not-row_ok c = not_row c.args.table.now c.args.rows c.loop-i.i (omega arith) (λ W. false≢true (c.if-not-row_ok.ensures.1 W))
+pub find-requires-clause-indexed : goal.find-requires-clause-indexed
+find-requires-clause-indexed c = c.loop-i.invariant.indexed
 
-pub returns-then-find-ne0 : goal.returns-then-find-ne0
-returns-then-find-ne0 c =
-    let f = c.find.ensures.some (c.find.result - 1) (omega arith) in
-    not_apart c.args.table.now c.args.rows (c.find.result - 1) c.loop-i.i f.0 (omega arith) (f.1 ∙ key_now c.args.table.now c.loop-i.i)
+pub returns-then-not-row_ok : goal.returns-then-not-row_ok
+returns-then-not-row_ok c =
+    let t = c.args.table.now in
+    elim c.then-not-row_ok.branch [
+      | then-not-row_ok-via-then-not-row_ok w ↦ not_row t c.args.rows c.loop-i.i c.loop-i-test.true (omega arith) (λ R. false≢true (w.if-not-row_ok.ensures.1 (subst RowParts (sym c.row_of-row.ensures.value) R)))
+      | then-not-row_ok-via-else-not-row_ok+then-is_some w ↦
+          let f = found_some w.find.result w.find.ensures (sym w.is_some.ensures ∙ w.if-is_some.true) in
+          not_apart t c.args.rows f.0 c.loop-i.i f.1.within c.loop-i-test.true (f.1.same ∙ ap (take 10) c.row_of-row.ensures.value ∙ key_now t c.loop-i.i)
+    ]
 
 pub loop-i-preserved : goal.loop-i-preserved
 loop-i-preserved c =
     let t = c.args.table.now in
     let l = c.loop-i in
-    let q = key_now t l.i in
+    let k = ap (take 10) c.row_of-row.ensures.value ∙ key_now t l.i in
     record {
-      within = omega arith;
-      checked = checked_next t l.i l.invariant.checked (c.if-not-row_ok.ensures.0 refl) (λ j h e. c.find.ensures.none j (omega arith) h (e ∙ sym q));
-      linked =
-          let k = subst (λ (x : List ℕ). Linked t (l.i + 1) (set l.head (bucket_of x) (l.i + 1)) (set l.next l.i (get_or l.head (bucket_of x) 0))) (sym q)
-          (linked_new t t l.i l.head l.next (λ r h. refl) l.invariant.linked (key_at t l.i) refl l.invariant.buckets l.invariant.links (omega arith)) in
-          rw (c.link.ensures.head_after, c.link.ensures.next_after) k;
-      buckets = rw c.link.ensures.head_after (length-set l.head _ (l.i + 1) ∙ l.invariant.buckets);
-      links = rw c.link.ensures.next_after (length-set l.next l.i _ ∙ l.invariant.links);
+      checked =
+          checked_next t l.i l.invariant.checked (well_row t l.i (omega arith) (subst RowParts c.row_of-row.ensures.value (c.if-not-row_ok.ensures.0 refl)))
+          (λ q h e. found_none c.find.result c.find.ensures (sym c.is_some.ensures ∙ c.if-is_some.false) q h (e ∙ sym k));
+      indexed = rw c.link.ensures (linked_new t t l.i l.index.head l.index.next (λ r h. refl) l.invariant.indexed _ (sym k) l.invariant.heads l.invariant.nexts (omega arith));
+      heads = rw c.link.ensures (length-set l.index.head _ (l.i + 1) ∙ l.invariant.heads);
+      nexts = rw c.link.ensures (length-set l.index.next l.i _ ∙ l.invariant.nexts);
     }
 
 pub returns : goal.returns

@@ -32,7 +32,7 @@ pub struct Case {
     pub answer: Answer,
 }
 
-/// A row as document 01 lays it out, with H in the order given.
+/// A row as docs/RULES.md lays it out, with H in the order given.
 pub fn row_words(thread: u16, wanted: u16, held: &[u16], first: u16, times: u16) -> Vec<u16> {
     let mut words = vec![thread, wanted, held.len() as u16];
     words.extend(held);

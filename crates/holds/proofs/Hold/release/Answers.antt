@@ -1,34 +1,33 @@
--- The new places have what stays of those passed.
-use Rattle.std.proofs.Common.{◌<◌, arith, length, sym, take, ◌∙◌}
-use lib.Seq.{get_or-take}
-use Rattle.holds.proofs.Loops.{out_gone, out_stays}
-use Rattle.holds.proofs.Hold.release.Goals as goal
+-- What stays of the places passed is laid.
+use Rattle.std.proofs.Common.{◌+◌, ◌<◌, arith, get_or, length, length-take, take, set, sym, ap, ◌∙◌}
+use Rattle.laws.specs.Sets.{remove}
+use Rattle.model.specs.Holds.{most_held}
+use Rattle.holds.specs.declared.Hold.{Hold}
+use Rattle.holds.specs.Hold.{in_places}
+use Rattle.holds.proofs.Places.{remove_gone, remove_stays, laid_more}
 use Rattle.holds.proofs.Hold.release.Goals.{then-x-m, else-x-m}
+use Rattle.holds.proofs.Hold.release.Goals as goal
 
-pub loop-i-preserved : goal.loop-i-preserved
-loop-i-preserved c =
-    let a = c.args in
-    let n = c.used-n.result in
-    let v = c.loop-i in
-    let xs = take n a.self.places in
-    let hn : v.i < n = omega arith in
-    let h : v.i < length xs = omega arith in
-    let g = get_or-take n a.self.places v.i 0 hn in
+pub loop-x-preserved : goal.loop-x-preserved
+loop-x-preserved c =
+    let v = c.loop-x in
+    let m = c.args.m in
+    let xs = c.used-x-items.result.now in
+    let x = get_or xs v.x-index 0 in
     elim c.if-x-m.branch [
       | then-x-m w ↦
-          rw (w.places-is, w.size-is)
-          (record {
-            i_in = omega arith;
-            n_in = v.invariant.n_in;
-            used = v.invariant.used;
-            out = rw g at (out_stays a.m xs v.i v.places v.size v.invariant.out h (omega (arith, v.invariant.out.few)) (λ e. w.if-x-m.true (sym g ∙ e)));
-          })
+          let few : length (remove m (take v.x-index xs)) < most_held = omega (arith, ap (λ (h : Hold). h.size) v.invariant.so_far, simp length-take at (ap length v.invariant.items)) in
+          record {
+            items = v.invariant.items;
+            few = rw w.left-is (omega (arith, v.invariant.few));
+            so_far =
+                w.left-is ∙ ap (λ (h : Hold). record { places = set h.places h.size x; size = h.size + 1 }) v.invariant.so_far
+                ∙ laid_more (remove m (take v.x-index xs)) x few ∙ ap in_places (sym (remove_stays m xs v.x-index (omega arith) w.if-x-m.true));
+          }
       | else-x-m w ↦
-          rw (w.places-is, w.size-is)
-          (record {
-            i_in = omega arith;
-            n_in = v.invariant.n_in;
-            used = v.invariant.used;
-            out = out_gone a.m xs v.i v.places v.size v.invariant.out h (g ∙ w.if-x-m.false);
-          })
+          record {
+            items = v.invariant.items;
+            few = rw w.left-is (omega (arith, v.invariant.few));
+            so_far = w.left-is ∙ v.invariant.so_far ∙ ap in_places (sym (remove_gone m xs v.x-index (omega arith) w.if-x-m.false));
+          }
     ]

@@ -1,16 +1,13 @@
--- Taking out: the new places have what stays of those passed.
-use Rattle.std.proofs.Common.{◌-◌, ◌≡◌, ◌≤◌, length, take}
-use Rattle.holds.proofs.Loops.{Out}
+-- Taking out: what stays of the places passed is laid.
+use Rattle.std.proofs.Common.{◌≡◌, ◌≤◌, take}
+use Rattle.laws.specs.Sets.{remove}
+use Rattle.holds.specs.Hold.{in_places, in_use}
 use Rattle.holds.proofs.Hold.release.Given as goal
 
-abbrev pub invariant-loop-i : goal.invariant-loop-i
-invariant-loop-i l =
+abbrev pub invariant-loop-x : goal.invariant-loop-x
+invariant-loop-x l =
     record {
-      i_in : l.i ≤ l.n;
-      n_in : l.n ≤ 8;
-      used : length (take l.n l.self.places) ≡ l.n;
-      out : Out l.m (take l.n l.self.places) l.i l.places l.size;
+      items : l.x-items ≡ in_use l.fn.self;
+      few : l.left.size ≤ l.x-index;
+      so_far : l.left ≡ in_places (remove l.m (take l.x-index l.x-items));
     }
-
-abbrev pub decreases-loop-i : goal.decreases-loop-i
-decreases-loop-i l = l.n - l.i

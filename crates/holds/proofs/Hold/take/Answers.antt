@@ -1,69 +1,27 @@
--- What is carried and what is left make, with what is passed, the set with the lock in it.
-use Rattle.std.proofs.Common.{◌≡◌, ◌+◌, ◌<◌, ap, arith, drop, length, sym, take, ◌∙◌}
-use lib.ListN.{set, length-set}
-use lib.Seq.{get_or-take, take-set-lt, drop-set-lt, drop-drop}
-use borrow.Author.Tests.{lt-ltb}
-use Rattle.holds.proofs.Loops.{stored, carry_moving, carry_start, carry_pass, carry_done}
+-- The place that is found is where putting in puts, and the turn brings the lock there.
+use Rattle.std.proofs.Common.{ℕ, ◌<◌, ◌≤◌, ◌≡◌, not, cond, Some, None, length, length-take, take, rules, tests, arith, ltb, lt-ltb, refl, ap, ◌∙◌}
+use Rattle.std.specs.List.{position_or_len}
+use Rattle.std.specs.Option.{unwrap_or}
+use Rattle.std.proofs.lemmas.Bool.Decides.{nat_tests}
+use Rattle.std.proofs.lemmas.Iterator.{YieldsList-from_slice}
+use Rattle.std.proofs.lemmas.Iterator.Search.{position_from_yields_List}
+use Rattle.std.proofs.lemmas.List.Sums.{prefix_len-le-length}
+use Rattle.holds.proofs.Places.{insert_at, turned_in}
 use Rattle.holds.proofs.Hold.take.Goals as goal
-use Rattle.holds.proofs.Hold.take.Goals.{then-moving, else-moving+then-carry-x, else-moving+else-carry-x}
 
-pub loop-i-preserved : goal.loop-i-preserved
-loop-i-preserved c =
-    let a = c.args in
-    let n = a.self.size in
-    let v = c.loop-i in
-    let P = v.self.places in
-    let xs = take n P in
-    let h : v.i < n = omega arith in
-    let hx : v.i < length xs = omega arith in
-    let g = get_or-take n P v.i 0 h in
-    let t = take-set-lt n P v.i v.carry h in
-    let l : length (set P v.i v.carry) ≡ 8 = simp length-set v.invariant.eight in
-    let lx : length (set xs v.i v.carry) ≡ n = simp length-set v.invariant.used in
-    let d : drop n (set P v.i v.carry) ≡ drop n a.self.places = drop-set-lt n P v.i v.carry h ∙ v.invariant.rest in
-    elim c.if-moving.branch [
-      | then-moving w ↦
-          rw (w.self-is, w.carry-is, w.moving-is, t)
-          (record {
-            i_in = omega arith;
-            n_in = v.invariant.n_in;
-            eight = l;
-            used = lx;
-            rest = d;
-            so_far = (rw w.if-moving.true at v.invariant.so_far) ∙ rw w.if-moving.true (rw g at (carry_moving xs v.i v.carry hx));
-          })
-      | else-moving+then-carry-x w ↦
-          rw (w.self-is, w.carry-is, w.moving-is, t)
-          (record {
-            i_in = omega arith;
-            n_in = v.invariant.n_in;
-            eight = l;
-            used = lx;
-            rest = d;
-            so_far = (rw w.if-moving.false at v.invariant.so_far) ∙ (rw g at (carry_start xs v.i v.carry hx (rw g w.if-carry-x.true)));
-          })
-      | else-moving+else-carry-x w ↦
-          rw (w.self-is, w.carry-is, w.moving-is)
-          (record {
-            i_in = omega arith;
-            n_in = v.invariant.n_in;
-            eight = v.invariant.eight;
-            used = v.invariant.used;
-            rest = v.invariant.rest;
-            so_far = (rw w.if-moving.false at v.invariant.so_far) ∙ rw w.if-moving.false (carry_pass xs v.i v.carry hx (rw g w.if-carry-x.false));
-          })
-    ]
+found_or : (p : ℕ) (n : ℕ) → p ≤ n → unwrap_or (cond (ltb p n) (Some p) None) n ≡ p
+found_or p n h = grind (arith, nat_tests)
 
 pub returns : goal.returns
 returns c =
-    let a = c.args in
-    let n = a.self.size in
-    let v = c.loop-i in
-    let P = v.self.places in
-    let e : drop (n + 1) P ≡ drop (n + 1) a.self.places = sym (drop-drop 1 n P) ∙ ap (drop 1) v.invariant.rest ∙ drop-drop 1 n a.self.places in
-    rw (
-      lt-ltb n 8 v.invariant.n_in,
-      v.invariant.so_far ∙ carry_done v.moving v.carry (take n P) v.i (omega arith),
-      stored P n v.carry (omega arith),
-      ← e,
-    )
+    let n = c.args.self.size in
+    let m = c.args.m in
+    let P = c.args.self.places in
+    let q = position_or_len (ltb m) (take n P) in
+    let h : n < 8 = c.if-last-ge-MOST_HELD.false in
+    let u : c.used.result.now ≡ take n P = c.used.ensures ∙ ap (λ (k : ℕ). take k P) (omega arith) in
+    let l : length (take n P) ≡ n = simp length-take (omega arith) in
+    let k : q ≤ n = omega (arith, prefix_len-le-length (λ x. not (ltb m x)) (take n P)) in
+    let f = position_from_yields_List (ltb m) _ _ c.position.result c.position.ensures.ran (YieldsList-from_slice c.used.result.now cc) (λ x b q k. search (rules, tests)) in
+    let a : c.unwrap_or-at.result ≡ q = c.unwrap_or-at.ensures ∙ rw (f, u, l) (found_or q n k) in
+    rw (c.rotate_right.ensures.after, a, lt-ltb n 8 h, insert_at m (take n P), turned_in P n m q (omega arith) k _ refl)

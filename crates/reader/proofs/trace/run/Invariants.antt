@@ -1,10 +1,7 @@
 -- The events passed are in the state; the laws of `Running` carry it from one to the next.
-use Rattle.std.proofs.Common.{◌-◌, length}
+use Rattle.std.proofs.Common.{◌≡◌}
 use Rattle.reader.proofs.Running.{Runs}
 use Rattle.reader.proofs.trace.run.Given as goal
 
-abbrev pub invariant-loop-at : goal.invariant-loop-at
-invariant-loop-at l = Runs l.limits l.events l.fn.table l.table l.holds l.owner l.head l.next l.rows l.p l.at
-
-abbrev pub decreases-loop-at : goal.decreases-loop-at
-decreases-loop-at l = length l.events - l.at
+abbrev pub invariant-loop-place : goal.invariant-loop-place
+invariant-loop-place l = (l.rows.table.ghost_name ≡ l.initial.rows.table.ghost_name) × Runs l.fn.limits l.events l.fn.table l.place l.threads l.rows
