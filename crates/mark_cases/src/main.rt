@@ -62,7 +62,7 @@ fn load(table: &mut [u16], bytes: &[u8]) {
     }
 }
 
-// The places that are marked, or how many they are and the sum over all.
+// The places that are marked, or how many they are and the sum over all: `in_full` is the case's own number.
 fn say_marks<W: Write>(out: &mut W, name: &str, marks: &[u8], in_full: bool) -> io::Result<()> {
     write!(out, " {name}")?;
     if !in_full {
@@ -87,6 +87,7 @@ fn say_first<W: Write>(out: &mut W, name: &str, found: Option<usize>) -> io::Res
 
 // Calls with a table and a page, which holds the bytes of `before`, and says what is answered and left.
 // `answer` and `main` of the other program have this frame, and differ in what they read, call and say, which is all of their body.
+// Words and row count are two arguments, as a case is any words with any count, and `in_full` is the case's own number.
 fn answer<W: Write>(
     out: &mut W,
     table: &[u16],

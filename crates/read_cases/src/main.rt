@@ -50,6 +50,7 @@ fn word_before(place: usize) -> u16 {
 
 // Calls with an image and a table, which holds the words of `before`, and says what is answered and left.
 // `answer` and `main` of the other program have this frame, and differ in what they read, call and say, which is all of their body.
+// `in_full` is the case's own number.
 fn answer<W: Write>(
     out: &mut W,
     image: &[u8],

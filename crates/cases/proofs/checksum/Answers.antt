@@ -1,3 +1,4 @@
+-- The values passed are folded into the sum.
 use Rattle.std.proofs.Common.{arith}
 use Rattle.cases.proofs.Steps.{mixed_more}
 use Rattle.cases.proofs.checksum.Goals as goal

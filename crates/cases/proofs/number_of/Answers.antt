@@ -1,3 +1,4 @@
+-- The bytes are those of the number that they make.
 use Rattle.std.proofs.Common.{rules}
 use Rattle.std.proofs.lemmas.Nat.{le_bytes_4}
 use Rattle.cases.proofs.number_of.Goals as goal

@@ -1,3 +1,4 @@
+-- The numbers read so far are those of the bytes consumed.
 use Rattle.std.proofs.Common.{rules, arith, ◌≤◌, ◌∙◌, length-set, length}
 use Rattle.std.proofs.lemmas.List.{take_all}
 use Rattle.std.specs.Int.{w32, to_le_bytes}
