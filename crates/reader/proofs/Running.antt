@@ -1,7 +1,7 @@
 -- All events, one after the other.
 --     events_are       the events that bytes write, six by six
 --     Runs             p events have been read, and `left` are the others: the working memory has the state that is reached, and the events left decide
---     runs_start, runs_on      before the first event, and after each that passes
+--     runs_on      after each event that passes
 --     runs_can_count   what a step relies on
 --     runs_stop, runs_end      the answer at a refusal, and at the end
 use Rattle.std.proofs.Common.{ℕ, zero, suc, ◌+◌, ◌*◌, ◌/◌, ◌≤◌, ◌<◌, ◌≡◌, refl, sym, ap, ◌∙◌, List, [], ◌∷◌, map, length, get_or, take, drop, length-drop, length-take-le, drop-cons, arith, add-one, Ok, Err, Result, drop_of_length-le, take-append-drop}
@@ -15,8 +15,8 @@ use Rattle.model.specs.Refusals.{passes, refuses, number, number_of}
 use Rattle.model.specs.Image.{event_size, event_of, events_from}
 use Rattle.model.specs.Reading.{outcome, answer_of, told}
 use Rattle.model.specs.Table.{row_size}
-use Rattle.model.specs.Trace.{State, start, after, Read, reads, trace}
-use Rattle.model.proofs.Sound.{Sound, sound_start, sound_after}
+use Rattle.model.specs.Trace.{State, after, Read, reads, trace}
+use Rattle.model.proofs.Sound.{Sound, sound_after}
 use Rattle.model.proofs.Traces.{reads_end, reads_on, reads_stop}
 use Rattle.reader.specs.declared.table.Rows.{Rows}
 use Rattle.reader.specs.declared.trace.Threads.{Threads}
@@ -62,9 +62,6 @@ pub record Runs (n : Limits) (all : List (List ℕ)) (t₀ : List ℕ) (p : ℕ)
   pub sound : Sound n p state
   pub stands : Stands state t₀ x m
   pub left : trace n (map event_of all) ≡ reads n state p (map event_of (drop p all))
-
-pub runs_start : {n : Limits} (all : List (List ℕ)) {t₀ : List ℕ} {x : Threads} {m : Rows} → x.limits ≡ n → Stands start t₀ x m → Runs n all t₀ 0 x m
-runs_start {n} all l L = record { limits = l; state = start; sound = sound_start n; stands = L; left = refl }
 
 -- the answer, and what the table holds
 told_is : (r : Read) (t₀ : List ℕ) (m : Rows) (a place rows : ℕ) (ws : List ℕ) → a ≡ number r.verdict → place ≡ r.place → rows ≡ m.count → ws ≡ m.table.now → Tabled r.state.rows t₀ m

@@ -1,10 +1,10 @@
 -- Each way in which a table is not well formed is one law of `Tables`.
-use Rattle.std.proofs.Common.{◌+◌, ◌∙◌, sym, ap, refl, arith, rules, subst, take, length-set}
+use Rattle.std.proofs.Common.{◌+◌, ◌∙◌, sym, ap, refl, arith, subst, take, length-set}
 use Rattle.std.proofs.lemmas.Bool.{false≢true}
 use Rattle.index.proofs.Linked.{linked_new}
 use Rattle.index.proofs.Seeking.{found_some, found_none}
 use Rattle.given.specs.Working.{RowParts}
-use Rattle.given.proofs.Tables.{checked_none, checked_next, not_few, not_room, not_row, not_apart, checked_given, key_now, well_row}
+use Rattle.given.proofs.Tables.{checked_next, not_few, not_room, not_row, not_apart, checked_given, key_now, well_row}
 use Rattle.given.proofs.well_formed.Goals.{then-rows-gt-MOST_ROWS-via-then-rows-gt-MOST_ROWS, then-rows-gt-MOST_ROWS-via-else-rows-gt-MOST_ROWS+then-table-rows, then-not-row_ok-via-then-not-row_ok, then-not-row_ok-via-else-not-row_ok+then-is_some}
 use Rattle.given.proofs.well_formed.Goals as goal
 
@@ -14,18 +14,6 @@ returns-then-rows-gt-MOST_ROWS c =
       | then-rows-gt-MOST_ROWS-via-then-rows-gt-MOST_ROWS w ↦ not_few c.args.table.now c.args.rows (omega arith)
       | then-rows-gt-MOST_ROWS-via-else-rows-gt-MOST_ROWS+then-table-rows w ↦ not_room c.args.table.now c.args.rows (omega arith)
     ]
-
-pub loop-i-init : goal.loop-i-init
-loop-i-init c =
-    record {
-      checked = checked_none c.args.table.now;
-      indexed = c.new-index.ensures.indexes c.args.table.now;
-      heads = search rules;
-      nexts = search rules;
-    }
-
-pub find-requires-clause-indexed : goal.find-requires-clause-indexed
-find-requires-clause-indexed c = c.loop-i.invariant.indexed
 
 pub returns-then-not-row_ok : goal.returns-then-not-row_ok
 returns-then-not-row_ok c =

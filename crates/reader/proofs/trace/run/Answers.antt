@@ -1,10 +1,7 @@
 -- The events passed are in the state; the laws of `Running` carry it from one to the next.
-use Rattle.std.proofs.Common.{arith, rules, refl, ◌∙◌}
-use Rattle.reader.proofs.Running.{events_are, runs_start, runs_can_count, runs_on, runs_stop, runs_end}
+use Rattle.std.proofs.Common.{arith, rules, ◌∙◌}
+use Rattle.reader.proofs.Running.{events_are, runs_can_count, runs_on, runs_stop, runs_end}
 use Rattle.reader.proofs.trace.run.Goals as goal
-
-pub loop-place-init : goal.loop-place-init
-loop-place-init c = (refl, runs_start _ c.new-threads.ensures.limits (c.new-threads.ensures.start _ _ c.new-rows.ensures.none))
 
 pub step-requires : goal.step-requires
 step-requires c = runs_can_count c.loop-place.invariant.1 (omega (arith, c.as_chunks.ensures.front_len))

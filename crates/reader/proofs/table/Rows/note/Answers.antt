@@ -3,9 +3,6 @@ use Rattle.std.proofs.Common.{arith, rules, refl, ◌*◌, ◌+◌, get_or, leng
 use Rattle.reader.proofs.Noting.{indexed_known, indexed_new, note_known, note_full, note_new}
 use Rattle.reader.proofs.table.Rows.note.Goals as goal
 
-pub overflow_add-self-in-Some : goal.overflow_add-self-in-Some
-overflow_add-self-in-Some c = omega (arith, c.requires c.in-Some.row (c.find.ensures.found.some _ c.in-Some.is).within)
-
 pub invariant_of-self-clause-room : goal.invariant_of-self-clause-room
 invariant_of-self-clause-room c =
     let x = c.args.self.now in
