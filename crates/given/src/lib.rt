@@ -61,6 +61,7 @@ fn row_of(words: &[u16], row: usize) -> &[u16]
     requires { (row < most_rows) × (row * row_size + row_size ≤ length words.now) }
     ensures value { result.now ≡ part (row * row_size) row_size words.now }
     ensures long { length result.now ≡ row_size }
+    ensures place { (result.ref_ptr.0 ≡ words.entry.ref_ptr.0) × (result.ref_ptr.1 ≡ words.entry.ref_ptr.1 + row * row_size * 2) }
 {
     &words[row * index::ROW..row * index::ROW + index::ROW]
 }
@@ -98,6 +99,7 @@ impl<'a> Table<'a> {
     /// The table of so many rows that the words begin with, if they are well formed.
     pub fn new(words: &'a [u16], rows: usize) -> Result<Table<'a>, Refusal>
         ensures table { IfOk result (λ table. (table.words.now ≡ words.now) × (table.rows ≡ rows)) }
+        ensures lent { IfOk result (λ table. table.words.ref_ptr ≡ words.entry.ref_ptr) }
         ensures refused { IfErr result (λ refusal. (refusal ≡ Rows) × (given rows words.now ≡ false)) }
     {
         if !well_formed(words, rows) {
@@ -133,6 +135,7 @@ impl<'a> Table<'a> {
         requires { row < self.now.rows }
         ensures value { result.now ≡ (dep_at self.now.words.now row).held }
         ensures locks { All (λ lock. lock < 256) result.now }
+        ensures place { (result.ref_ptr.0 ≡ self.now.words.ref_ptr.0) × (result.ref_ptr.1 ≡ self.now.words.ref_ptr.1 + (row * row_size + 3) * 2) }
     {
         let words = row_of(self.words, row);
         &words[3..][..usize::from(words[2])]

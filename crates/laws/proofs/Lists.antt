@@ -11,8 +11,8 @@
 --     rising_same                      two lists that rise in one order and have the same in them are one list
 --     begins_..                        beginnings
 --     in_flat, flat_in, pairwise_flat  what stands in joined images, and pairs of them
---     map_append, flat_append, flat_begins     images of a joined list, and of a beginning
-use Rattle.std.proofs.Common.{ℕ, zero, suc, ◌+◌, ◌≤◌, ◌<◌, not-suc-le-zero, arith, ◌≡◌, refl, sym, ap, subst, ◌∙◌, Bool, true, false, not, ◌⊎◌, inl, inr, ⊎_elim, List, [], ◌∷◌, ◌++◌, append_assoc, append-nil, map, length, eqb}
+--     map_append, flat_append, flat_filter, flat_begins     images of a joined list, of those that pass, of a beginning
+use Rattle.std.proofs.Common.{ℕ, zero, suc, ◌+◌, ◌≤◌, ◌<◌, not-suc-le-zero, arith, ◌≡◌, refl, sym, ap, subst, ◌∙◌, Bool, true, false, not, ◌⊎◌, inl, inr, ⊎_elim, List, [], ◌∷◌, ◌++◌, append_assoc, append-nil, map, length, eqb, if◌then◌else◌}
 use Rattle.std.proofs.lemmas.Bool.{false≢true}
 use Rattle.std.proofs.Math.Decide.{ℕ_discrete}
 use Rattle.laws.specs.Tests.{Tells}
@@ -251,6 +251,15 @@ module _ {A B : Type 0} where
 
   pub flat_begins : (f : A → List B) (xs ys : List A) → Begins xs ys → Begins (flat f xs) (flat f ys)
   flat_begins f xs ys w = (flat f w.0, ap (flat f) w.1 ∙ flat_append f xs w.0)
+
+  pub flat_filter : (f : A → List B) (g : A → Bool) (xs : List A) → flat f (filter g xs) ≡ flat (λ x. if g x then f x else []) xs
+  flat_filter f g [] = refl
+  flat_filter f g (x ∷ xs) = go (g x) (flat_filter f g xs)
+    where
+      go : (b : Bool) → flat f (filter g xs) ≡ flat (λ x. if g x then f x else []) xs
+          → flat f (cons_if b x (filter g xs)) ≡ (if b then f x else []) ++ flat (λ x. if g x then f x else []) xs
+      go true e = ap (λ (l : List B). f x ++ l) e
+      go false e = e
 
   pub in_flat : (f : A → List B) (q : B) (x : A) (xs : List A) → In x xs → In q (f x) → In q (flat f xs)
   in_flat f q x [] i h = absurd i

@@ -1,12 +1,24 @@
 -- Lists by their places.
+--     none_next                    what no number below i has, and i has not, no number below i + 1 has
 --     place_in, in_place           the entry in a place stands in the list, and what stands in a list has a place
 --     pairwise_place, place_pairwise    pairs by two places, one before the other
 --     get_or_map                     an entry of a list's image
 --     get_or_below                   the numbers below n by their places
 --     sum_set                      a list's sum after one entry is put to 0
-use Rattle.std.proofs.Common.{ℕ, zero, suc, ◌+◌, ◌<◌, le_of_suc-le-suc, arith, ◌≡◌, refl, sym, ap, subst, ◌∙◌, inl, inr, List, [], ◌∷◌, map, length, get_or, set}
+--     over_next, over_take, over_over    words laid over memory one by one
+use Rattle.std.proofs.Common.{ℕ, zero, suc, ◌+◌, ◌-◌, ◌≤◌, ◌<◌, add-one, le_of_suc-le-suc, arith, ◌≡◌, refl, sym, ap, subst, ◌∙◌, inl, inr, List, [], ◌∷◌, ◌++◌, append_assoc, map, length, length-take-le, get_or, take, take_all, take-take, drop, drop-cons, drop-drop, set}
+use Rattle.std.proofs.lemmas.List.{set_at, take-append-le}
+use Rattle.std.proofs.Math.Decide.{ℕ_discrete}
+use Rattle.std.proofs.Math.Seq.{take-suc, drop-append-add}
 use Rattle.laws.specs.Lists.{In, Pairwise, up_from, below}
-use Rattle.laws.specs.Memory.{sum}
+use Rattle.laws.specs.Memory.{over, sum}
+
+pub none_next : (P : ℕ → Type 0) (i : ℕ) → ((j : ℕ) → j < i → P j → ⊥) → (P i → ⊥) → (j : ℕ) → j < i + 1 → P j → ⊥
+none_next P i h n j l = go (ℕ_discrete j i)
+  where
+    go : Dec (j ≡ i) → P j → ⊥
+    go (yes e) = λ p. n (subst P e p)
+    go (no e) = h j (omega arith)
 
 module _ {A : Type 0} (d : A) where
   pub place_in : (xs : List A) (i : ℕ) → i < length xs → In (get_or xs i d) xs
@@ -55,3 +67,30 @@ pub sum_set : (xs : List ℕ) (i : ℕ) → i < length xs → sum (set xs i 0) +
 sum_set [] i h = absurd (let z : ⊥ = omega arith in z)
 sum_set (x ∷ xs) zero h = omega arith
 sum_set (x ∷ xs) (suc i) h = omega (arith, sum_set xs i (le_of_suc-le-suc h))
+
+-- the words ws laid over xs one by one: after the first k of them comes the next
+module _ (ws xs : List ℕ) where
+  pub over_none : over (take 0 ws) xs ≡ xs
+  over_none = refl
+
+  pub over_next : (k : ℕ) → k < length ws → length ws ≤ length xs → set (over (take k ws) xs) k (get_or ws k 0) ≡ over (take (k + 1) ws) xs
+  over_next k h l =
+      let n = length-take-le k ws (omega arith) in
+      let m : length (take (k + 1) ws) ≡ k + 1 = length-take-le (k + 1) ws (omega arith) in
+      rw (n, m, add-one, drop-cons xs k 0 (omega arith), set_at (take k ws) (get_or xs k 0) (drop (suc k) xs) (get_or ws k 0) k n, take-suc ws k 0 h) (sym (append_assoc (take k ws) (get_or ws k 0 ∷ []) (drop (suc k) xs)))
+
+  -- what the first words are, while more are laid
+  pub over_take : (j k : ℕ) → j ≤ k → k ≤ length ws → take j (over (take k ws) xs) ≡ take j ws
+  over_take j k h l =
+      let n : j ≤ length (take k ws) = omega (arith, length-take-le k ws l) in
+      take-append-le j (take k ws) (drop (length (take k ws)) xs) n ∙ take-take j k ws h
+
+  pub over_all : (k : ℕ) → length ws ≤ k → over (take k ws) xs ≡ over ws xs
+  over_all k h = ap (λ (l : List ℕ). over l xs) (take_all k ws h)
+
+-- what was laid before is laid over
+pub over_over : (us ws xs : List ℕ) → length us ≤ length ws → over ws (over us xs) ≡ over ws xs
+over_over us ws xs h =
+    let e : length ws ≡ length us + (length ws - length us) = omega arith in
+    ap (λ (l : List ℕ). ws ++ l)
+    (ap (λ (k : ℕ). drop k (over us xs)) e ∙ drop-append-add us (drop (length us) xs) (length ws - length us) ∙ drop-drop (length ws - length us) (length us) xs ∙ ap (λ (k : ℕ). drop k xs) (sym e))

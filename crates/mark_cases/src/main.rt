@@ -62,9 +62,10 @@ fn load(table: &mut [u16], bytes: &[u8]) {
     }
 }
 
-// The places that are marked, or how many they are and the sum over all: `in_full` is the case's own number.
+// The places that are marked, or how many they are and the sum over all: `in_full` is the case's own number. The blank before a name is the name's,
+// here and in `say_first`: each part of a format is a call of the system.
 fn say_marks<W: Write>(out: &mut W, name: &str, marks: &[u8], in_full: bool) -> io::Result<()> {
-    write!(out, " {name}")?;
+    write!(out, "{name}")?;
     if !in_full {
         let count = marks.iter().filter(|mark| **mark == 1).count();
         return write!(out, " {count} sum {}", checksum(marks));
@@ -80,8 +81,8 @@ fn say_marks<W: Write>(out: &mut W, name: &str, marks: &[u8], in_full: bool) -> 
 // The place that was found, or `none`.
 fn say_first<W: Write>(out: &mut W, name: &str, found: Option<usize>) -> io::Result<()> {
     match found {
-        Some(place) => write!(out, " {name} {place}"),
-        None => write!(out, " {name} none"),
+        Some(place) => write!(out, "{name} {place}"),
+        None => write!(out, "{name} none"),
     }
 }
 
@@ -104,12 +105,12 @@ fn answer<W: Write>(
     let mut written = 0;
     if let (None, Some(marks)) = (refusal, page.first_chunk::<MARKS>()) {
         let (locks, rows) = marks.split_at(MOST_LOCKS);
-        say_marks(out, "locks", locks, in_full)?;
-        say_marks(out, "rows", rows, in_full)?;
-        say_first(out, "odd", marks.iter().position(|mark| 1 < *mark))?;
+        say_marks(out, " locks", locks, in_full)?;
+        say_marks(out, " rows", rows, in_full)?;
+        say_first(out, " odd", marks.iter().position(|mark| 1 < *mark))?;
         written = MARKS;
     }
-    say_first(out, "changed", first_changed(before, page, written))?;
+    say_first(out, " changed", first_changed(before, page, written))?;
     writeln!(out)
 }
 
@@ -123,7 +124,12 @@ fn main(rt: HostRuntime) -> io::Result<()> {
     let mut page = before;
     // Until the input ends. A range and no endless loop, so that the program has an end for every input.
     for _ in 0..u64::MAX {
-        let Some(numbers) = read_numbers(&mut input)? else {
+        // The numbers' bytes are read at once: a read for each number would be a call of the system for each.
+        let mut head = [0; 24];
+        if !read_whole(&mut input, &mut head)? {
+            break;
+        }
+        let Some(numbers) = read_numbers(&mut &head[..])? else {
             break;
         };
         let header = Header::from(numbers);

@@ -33,6 +33,7 @@ impl<'t, 'l> Peeling<'t, 'l> {
         requires { length locks.old ≡ 256 }
         ensures table { (result.table.words.now ≡ table.entry.words.now) × (result.table.rows ≡ table.entry.rows) }
         ensures same_reference { result.locks.ghost_name ≡ locks.entry.ghost_name }
+        ensures wanted { (row : ℕ) → row < table.entry.rows → On result.locks.now (dep_at table.entry.words.now row).wanted }
     {
         locks.fill(0);
         for row in 0..table.rows {
@@ -101,6 +102,8 @@ impl<'t, 'l> Peeling<'t, 'l> {
     }
 
     /// The first pair, from where the last search stopped, that ties the lock to those that are marked.
+    // Its loops are where marking spends its time. Within the code of a sweep, which would have them twice, they take up to three times as long.
+    #[inline(never)]
     fn tying_pair(&self, lock: u16) -> Option<Pair>
         requires { lock < 256 }
         ensures { Found (dep_at self.now.table.words.now) self.now.table.rows self.now.locks.now lock result }

@@ -6,7 +6,7 @@
 --     RowWell t i          the words in place i are a fair row's
 --     given_few, _room, _row, _apart    what a given table has
 --     given_of             and a table that has it is given
---     Lies t i d           where each part of the row d lies; well_lies: so it is with a fair row
+--     Lies t i d           where each part of the row d lies; well_lies, given_lies: so it is with a fair row, and each row of a given table
 use Rattle.std.proofs.Common.{ℕ, zero, suc, ◌+◌, ◌*◌, ◌-◌, ◌≤◌, ◌<◌, le_of_suc-le-suc, arith, ◌≡◌, refl, sym, ap, ap₂, subst, ◌∙◌, true, inl, inr, List, [], ◌∷◌, ◌++◌, append_assoc, ltb, length, get_or, take, drop, replicate, length-append, length-take, length-drop, take-append-drop, drop_of_length-le, drop-cons, take-take, take_at, drop_at, take-add, drop-drop, get_or-take, not}
 use Rattle.std.proofs.lemmas.List.{length-map, get_or_at}
 use Rattle.std.proofs.Math.Seq.{take-append_seam}
@@ -289,3 +289,6 @@ well_lies t i room W =
         let s : k < get_or ws 2 0 = omega (arith, size, at 2 (omega arith)) in
         let e : i * row_size + 3 + k ≡ i * row_size + (3 + k) = omega arith in
         sym (get_or-take (get_or ws 2 0) (part 3 7 ws) k 0 s ∙ part_at ws 3 7 k m ∙ at (3 + k) (omega arith) ∙ ap (λ (q : ℕ). get_or t q 0) (sym e))
+
+pub given_lies : (n : ℕ) (t : List ℕ) → given n t ≡ true → (i : ℕ) → i < n → Lies t i (dep_at t i)
+given_lies n t g i h = well_lies t i (row_room n t i (given_room n t g) h) (given_row n t g i h)

@@ -6,7 +6,7 @@
 --     marking_once                      an outcome settles the answer and every byte of the page
 --     marks_answer_once                 an answer is settled by its numbers
 --     mark_once                         so an outcome settles what marking answers
-use Rattle.std.proofs.Common.{ℕ, ◌+◌, ◌-◌, ◌≤◌, ◌<◌, arith, ◌≡◌, refl, sym, ap, ◌∙◌, Bool, true, false, ◌↔◌, List, map, lt-ltb, le-ltb, length, get_or, replicate, length-append, get_or-append-add, Result, Ok, Err}
+use Rattle.std.proofs.Common.{ℕ, ◌+◌, ◌-◌, ◌≤◌, ◌<◌, arith, ◌≡◌, refl, sym, ap, ◌∙◌, Bool, true, false, ◌↔◌, List, map, lt-ltb, le-ltb, length, get_or, take, take_at, replicate, length-append, get_or-append-add, Result, Ok, Err}
 use Rattle.std.proofs.lemmas.Bool.{false≢true}
 use Rattle.std.proofs.lemmas.List.{length-map, length-replicate, get_or-replicate}
 use Rattle.std.proofs.Math.ListN.{get_or-append}
@@ -49,6 +49,9 @@ module _ (ds : List Dependency) where
   pub locks_length : length (lock_marks ds) ≡ widest.locks
   unfolding lock_marks
   locks_length = length-map (below 256) (λ m. mark (has m (K ds))) ∙ length_below 256
+
+  pub page_locks : take widest.locks (page_of ds) ≡ lock_marks ds
+  page_locks = take_at (lock_marks ds) (row_marks ds) 256 locks_length
 
   pub page_length : length ds ≤ most_rows → length (page_of ds) ≡ page_room
   unfolding row_marks

@@ -1,5 +1,6 @@
 pub mod Refusals
 pub mod Kinds
+pub mod Texts
 pub mod Holds
 pub mod Rows
 pub mod Trace

@@ -102,6 +102,11 @@ impl Refusal {
 }
 
 impl fmt::Display for Refusal {
+    ghost use Rattle.std.specs.Prelude.{Some};
+    ghost use Rattle.model.specs.Texts.{text_of};
+
+    ghost output = { λ refusal. Some (text_of refusal) };
+
     fn fmt<W: fmt::Write>(&self, f: &mut fmt::Formatter<W>) -> fmt::Result {
         f.write_str(match self {
             Refusal::Short => "the image is too short for a header",
@@ -147,6 +152,11 @@ impl From<Refusal> for Refused {
 }
 
 impl fmt::Display for Refused {
+    ghost use Rattle.std.specs.Prelude.{Some};
+    ghost use Rattle.model.specs.Texts.{refused_text};
+
+    ghost output = { λ refused. Some (refused_text refused) };
+
     fn fmt<W: fmt::Write>(&self, f: &mut fmt::Formatter<W>) -> fmt::Result {
         match self.refusal {
             Refusal::Kind

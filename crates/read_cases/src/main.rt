@@ -12,8 +12,8 @@ ghost use Rattle.read_cases.specs.declared.TheConstants.{MOST_BYTES};
 use cases::{MOST_WORDS, checksum, first_changed, read_numbers, read_whole};
 use index::ROW;
 use model::Refusal;
+use std::io;
 use std::io::Write;
-use std::{array, io};
 
 const MOST_BYTES: usize = 65_600;
 
@@ -100,11 +100,20 @@ fn main(rt: HostRuntime) -> io::Result<()> {
     let mut out = rt.stdout();
     // Arrays and not vectors: a case never fails for want of memory, and the program assumes nothing of how memory is got.
     let mut image = [0; MOST_BYTES];
-    let before: [u16; MOST_WORDS] = array::from_fn(word_before);
-    let mut table = before;
+    // Filled where it lies: `array::from_fn` would take its 26,000 bytes of stack twice.
+    let mut before = [0; MOST_WORDS];
+    for (place, word) in before.iter_mut().enumerate() {
+        *word = word_before(place);
+    }
+    let mut table = [0; MOST_WORDS];
     // Until the input ends. A range and no endless loop, so that the program has an end for every input.
     for _ in 0..u64::MAX {
-        let Some(numbers) = read_numbers(&mut input)? else {
+        // The numbers' bytes are read at once: a read for each number would be a call of the system for each.
+        let mut head = [0; 16];
+        if !read_whole(&mut input, &mut head)? {
+            break;
+        }
+        let Some(numbers) = read_numbers(&mut &head[..])? else {
             break;
         };
         let header = Header::from(numbers);
